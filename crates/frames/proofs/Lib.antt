@@ -1,0 +1,2 @@
+pub mod KindLengths
+pub mod FrameTexts

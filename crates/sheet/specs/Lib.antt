@@ -1,0 +1,5 @@
+pub mod Lines
+pub mod Walk
+pub mod Reading
+pub mod Text
+pub mod Delivers
