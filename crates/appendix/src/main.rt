@@ -1,38 +1,22 @@
-// Reads a task sheet from standard input and prints what comes of it.
+// Reads a task sheet from standard input and prints the appendix of its plan, or the line of its refusal.
 use printout::refusal_line;
-use records::Records;
-use sheet::read_sheet;
+use quotation::appendix_of;
 use std::io;
 use std::io::Read;
 use std::io::Write;
-use tasks::PerMode;
-use tasks::Task;
 
 // More than any sheet that keeps the rules has.
 const MOST_BYTES: u64 = 4096;
 
-// What stands in a place before a row is written there.
-const BLANK: Task = Task {
-    id: 0,
-    level: 0,
-    period: 0,
-    deadline: 0,
-    budgets: PerMode {
-        everyday: 0,
-        critical: 0,
-    },
-};
+// As many bytes as the appendix of 64 tasks needs.
+const APPENDIX_BYTES: usize = 970;
 
 fn main(rt: LibcRuntime) -> io::Result<()> {
-    let mut bytes = Vec::new(rt.alloc());
-    rt.stdin().take(MOST_BYTES).read_to_end(&mut bytes)?;
-    let mut places = [BLANK; 64];
-    let mut rows = Records::new(&mut places);
-    match read_sheet(&bytes, &mut rows) {
-        Ok(m) => {
-            let tasks = rows.len();
-            println!(rt, "{tasks} tasks on {m} controllers")
-        }
+    let mut sheet = Vec::new(rt.alloc());
+    rt.stdin().take(MOST_BYTES).read_to_end(&mut sheet)?;
+    let mut appendix = [0u8; APPENDIX_BYTES];
+    match appendix_of(&sheet, &mut appendix) {
+        Ok(length) => rt.stdout().write_all(&appendix[0..length]),
         Err(fault) => rt.stdout().write_all(&refusal_line(&fault.refusal())),
     }
 }

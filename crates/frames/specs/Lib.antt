@@ -1,2 +1,3 @@
+-- Frames and their text.
 pub mod Frames
 pub mod Texts

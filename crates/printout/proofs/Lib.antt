@@ -1,2 +1,4 @@
 pub mod Written
+pub mod Parts
+pub mod Quotes
 pub mod ReadBack

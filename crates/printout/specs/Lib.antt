@@ -1,1 +1,2 @@
+-- What is printed.
 pub mod Texts

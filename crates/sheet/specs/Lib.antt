@@ -1,3 +1,4 @@
+-- Lines, the reader, and the text of a sheet.
 pub mod Lines
 pub mod Walk
 pub mod Reading

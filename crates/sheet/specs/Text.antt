@@ -9,6 +9,7 @@ use Rattle.std.specs.declared.result.Result.the-variants.{Ok}
 use Rattle.std.specs.shelf.Lists.{All, joined}
 use Rattle.frames.specs.Texts.{lineText}
 use Rattle.tasks.specs.declared.task.Task.{Task}
+use Rattle.tasks.specs.Counts.{Few}
 use Rattle.tasks.specs.Tasks.{InRange}
 use Rattle.frames.specs.Frames.{Told, opening, row, close}
 use Rattle.tasks.specs.declared.fault.SheetFault.{SheetFault}
@@ -44,7 +45,7 @@ pub record RowsValid (rows : List Task) : Type 0 where
 
 -- m and rows keep every rule of a sheet
 pub record Valid (m : ℕ) (rows : List Task) : Type 0 where
-  pub controllers : (1 ≤ m) × (m ≤ 8)
+  pub controllers : Few m
   pub tasks : length rows ≤ 64
   pub each : RowsValid rows
 

@@ -1,3 +1,5 @@
+-- Modes, tasks, counts of controllers, and refusals.
 pub mod Modes
 pub mod Tasks
 pub mod Refusals
+pub mod Counts

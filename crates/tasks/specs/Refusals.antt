@@ -1,4 +1,4 @@
--- The number, layer and place of each fault. Layers: 1 digits, 2 frames, 3 sheet.
+-- The number, layer and place of each fault. Layers: 1 digits, 2 frames, 3 sheet, 4 planning, 6 bench.
 use Prim.Native.Nat.{ℕ}
 use Rattle.std.specs.declared.option.Option.the-variants.{Some, None}
 use Rattle.tasks.specs.declared.fault.DigitFault.{DigitFault}
@@ -7,6 +7,14 @@ use Rattle.tasks.specs.declared.fault.FrameFault.{FrameFault}
 use Rattle.tasks.specs.declared.fault.FrameFault.the-variants.{Digits, NoFrame}
 use Rattle.tasks.specs.declared.fault.SheetFault.{SheetFault}
 use Rattle.tasks.specs.declared.fault.SheetFault.the-variants.{Frame, OutOfPlace, Counts, Places, Range, IdUsed, PeriodFalls}
+use Rattle.tasks.specs.declared.fault.PlanFault.{PlanFault}
+use Rattle.tasks.specs.declared.fault.PlanFault.the-variants.{Size, Counts as CountsDiffer, Range as RowRange, NoController}
+use Rattle.tasks.specs.declared.fault.ListFault.{ListFault}
+use Rattle.tasks.specs.declared.fault.ListFault.the-variants.{NotEachOnce}
+use Rattle.tasks.specs.declared.fault.AppendixFault.{AppendixFault}
+use Rattle.tasks.specs.declared.fault.AppendixFault.the-variants.{Sheet, Plan, Places as BytesShort}
+use Rattle.tasks.specs.declared.fault.BenchFault.{BenchFault}
+use Rattle.tasks.specs.declared.fault.BenchFault.the-variants.{NoController as ControllerBeyond, NoRow, Idle, Busy}
 use Rattle.tasks.specs.declared.refusal.Refusal.{Refusal}
 
 -- a refusal with this number, layer and place, and no column
@@ -37,3 +45,27 @@ sheetRefusal (Range line) = refusal 6 3 line
 sheetRefusal (IdUsed line) = refusal 7 3 line
 sheetRefusal (PeriodFalls line) = refusal 8 3 line
 sheetRefusal (Places line) = refusal 15 3 line
+
+-- what is reported of a fault of planning: the row where there is one
+abbrev pub planRefusal : PlanFault → Refusal
+planRefusal Size = refusal 5 4 0
+planRefusal (RowRange row) = refusal 6 4 row
+planRefusal CountsDiffer = refusal 9 4 0
+planRefusal (NoController row) = refusal 10 4 row
+
+-- what is reported of a list that a policy does not take
+abbrev pub listRefusal : ListFault → Refusal
+listRefusal NotEachOnce = refusal 18 4 0
+
+-- what is reported of a fault on the way from a sheet to its appendix
+abbrev pub appendixRefusal : AppendixFault → Refusal
+appendixRefusal (Sheet fault) = sheetRefusal fault
+appendixRefusal (Plan fault) = planRefusal fault
+appendixRefusal BytesShort = refusal 15 4 0
+
+-- what is reported of a fault of a bench: the number that the caller gave
+abbrev pub benchRefusal : BenchFault → Refusal
+benchRefusal (ControllerBeyond controller) = refusal 11 6 controller
+benchRefusal (NoRow row) = refusal 11 6 row
+benchRefusal (Idle controller) = refusal 12 6 controller
+benchRefusal (Busy controller) = refusal 17 6 controller

@@ -1,0 +1,5 @@
+-- Lemmas on orders.
+pub mod Arranged
+pub mod Naming
+pub mod Pigeonhole
+pub mod Places

@@ -1,0 +1,2 @@
+-- From a sheet to its appendix.
+pub mod Quotations

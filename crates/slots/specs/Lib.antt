@@ -1,0 +1,5 @@
+-- What slots are and when they meet.
+pub mod Divisors
+pub mod Jumps
+pub mod Ranges
+pub mod Slots
