@@ -4,6 +4,9 @@ ghost use lib.ListN.{length};
 ghost use mathlib.Core.Path.{_≡_};
 use tasks::BenchFault;
 
+// A bench takes rows 0 to 63.
+pub(crate) const HIGHEST_ROW: u8 = 63;
+
 // At most eight controllers, numbered from 0.
 pub trait Bench {
     // What each controller does.

@@ -2,6 +2,7 @@ ghost use Rattle.benches.specs.Commands.{endAnswer, startAnswer};
 ghost use Rattle.benches.specs.Registers.{endBytes, shownBy, startBytes};
 ghost use lib.ListN.{length};
 ghost use mathlib.Core.Path.{_≡_};
+use crate::bench::HIGHEST_ROW;
 use crate::interlock::Interlock;
 use tasks::BenchFault;
 
@@ -28,7 +29,7 @@ pub(crate) fn start_in(bytes: &mut [u8], controller: u8, row: u8) -> Result<(), 
     if controller >= count {
         return Err(BenchFault::NoController { controller });
     }
-    if row > 63 {
+    if row > HIGHEST_ROW {
         return Err(BenchFault::NoRow { row });
     }
     let place = controller as usize + 1;

@@ -2,6 +2,7 @@ ghost use Rattle.benches.specs.Slates.{allIdle, few-held, heldBy};
 ghost use Rattle.tasks.specs.Counts.{clamped};
 ghost use mathlib.Core.Path.{_≡_};
 use crate::bench::Bench;
+use crate::bench::HIGHEST_ROW;
 use crate::slate::Slate;
 use tasks::BenchFault;
 
@@ -34,7 +35,7 @@ pub impl Bench for Slate as SlateIsBench {
         if controller >= self.count {
             return Err(BenchFault::NoController { controller });
         }
-        if row > 63 {
+        if row > HIGHEST_ROW {
             return Err(BenchFault::NoRow { row });
         }
         let held = self.table[controller as usize];

@@ -18,7 +18,7 @@ returns-then-get-ne0 c =
     let w : i < length (shownBy b) = omega arith in
     let z = c .get .ensures .value ∙ held-at b _ i (lock .held) in
     let p : 0 < getD b (i + 1) 0 = omega (arith, z) in
-    let s = start-busy (shownBy b) i (c .args .row) _ w (c .if-row-gt63 .left) (shown-at b i w ∙ decoded-pred _ p) in
+    let s = start-busy (shownBy b) i (c .args .row) _ w (c .if-row-gt-HIGHEST-ROW .left) (shown-at b i w ∙ decoded-pred _ p) in
     let e : c .drop-lock-then-get-ne0 .last .self .0 ≡ startBytes b i (c .args .row) = c .drop-lock-then-get-ne0 .ensures ∙ let-go b _ _ (lock .held) (lock .before) ∙ ap (λ r. byAnswer r (set b (i + 1) (c .args .row + 1)) b) (s .answer) in
     record { answer = s .answer; after = search needs }
 
@@ -31,6 +31,6 @@ returns c =
     let put = c .put .ensures in
     let w : i < length (shownBy b) = omega arith in
     let z = sym (c .get .ensures .value ∙ held-at b _ i (lock .held)) ∙ c .if-get-ne0 .left in
-    let s = start-done (shownBy b) i row w (c .if-row-gt63 .left) (shown-at b i w ∙ ap decoded z) in
+    let s = start-done (shownBy b) i row w (c .if-row-gt-HIGHEST-ROW .left) (shown-at b i w ∙ ap decoded z) in
     let e : c .drop-lock-2 .last .self .0 ≡ startBytes b i row = c .drop-lock-2 .ensures ∙ let-go-set b _ _ _ _ i (row + 1) (lock .held) (lock .before) (put .after) (put .before) ∙ ap (λ r. byAnswer r (set b (i + 1) (row + 1)) b) (s .answer) in
     record { answer = s .answer; after = search needs }

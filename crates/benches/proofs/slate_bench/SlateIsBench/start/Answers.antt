@@ -14,12 +14,12 @@ returns-then-controller-self c =
     let d = start-none (heldBy s) i (c .args .row) (beyond _ _ _ (c .if-controller-self .taken)) in
     record { answer = d .answer; after = d .after; others = start-others _ _ i (c .args .row) (d .after); fixed = refl }
 
-pub returns-then-row-gt63 : need.returns-then-row-gt63
-returns-then-row-gt63 c =
+pub returns-then-row-gt-HIGHEST-ROW : need.returns-then-row-gt-HIGHEST-ROW
+returns-then-row-gt-HIGHEST-ROW c =
     let s = c .args .self .now in
     let i = c .args .controller in
     let w : i < length (heldBy s) = within _ _ _ (omega (arith, s .few, s .whole)) (c .if-controller-self .left) in
-    let d = start-row (heldBy s) i (c .args .row) w (c .if-row-gt63 .taken) in
+    let d = start-row (heldBy s) i (c .args .row) w (c .if-row-gt-HIGHEST-ROW .taken) in
     record { answer = d .answer; after = d .after; others = start-others _ _ i (c .args .row) (d .after); fixed = refl }
 
 pub returns-in-Some : need.returns-in-Some
@@ -28,7 +28,7 @@ returns-in-Some c =
     let i = c .args .controller in
     let l = c .if-controller-self .left in
     let w : i < length (heldBy s) = within _ _ _ (omega (arith, s .few, s .whole)) l in
-    let d = start-busy (heldBy s) i (c .args .row) _ w (c .if-row-gt63 .left) (getD-take _ _ _ _ l ∙ c .in-Some .is) in
+    let d = start-busy (heldBy s) i (c .args .row) _ w (c .if-row-gt-HIGHEST-ROW .left) (getD-take _ _ _ _ l ∙ c .in-Some .is) in
     record { answer = d .answer; after = d .after; others = start-others _ _ i (c .args .row) (d .after); fixed = refl }
 
 pub returns-in-None : need.returns-in-None
@@ -37,6 +37,6 @@ returns-in-None c =
     let i = c .args .controller in
     let l = c .if-controller-self .left in
     let w : i < length (heldBy s) = within _ _ _ (omega (arith, s .few, s .whole)) l in
-    let d = start-done (heldBy s) i (c .args .row) w (c .if-row-gt63 .left) (getD-take _ _ _ _ l ∙ c .in-None .is) in
+    let d = start-done (heldBy s) i (c .args .row) w (c .if-row-gt-HIGHEST-ROW .left) (getD-take _ _ _ _ l ∙ c .in-None .is) in
     let after = take-set-lt _ _ _ _ l ∙ d .after in
     record { answer = d .answer; after = after; others = start-others _ _ i (c .args .row) after; fixed = refl }
