@@ -5,6 +5,6 @@ use Rattle.digits.proofs.print_byte.Goals as goal
 
 pub returns : goal.returns
 returns c =
-    let high = c.print-digit.ensures.value in
-    let low = c.print-digit-2.ensures.value in
+    let high = c.print_digit.ensures.value in
+    let low = c.print_digit-2.ensures.value in
     record { value = search rules; reads_back = (λ i. byte_of (high i) (low i)) ∙ read_back c.args.b (search rules) }

@@ -27,25 +27,25 @@ returns-in-Ok c =
 pub returns-in-Err : goal.returns-in-Err
 returns-in-Err c = record { value = sym (no_frame c.args.line (get_or c.args.bytes.now 0 0) (drop 2 c.args.digits.now) (λ _ e. c.in-Err.ensures.1 (ap length (take_rest c.args.digits.now 2) ∙ e)) (λ e. absurd (omega (arith, c.in-1.is))) (λ e. absurd (omega (arith, c.in-1.is)))) }
 
-pub returns-in-Ok-try-from : goal.returns-in-Ok-try-from
-returns-in-Ok-try-from c =
-    let h = c.in-Ok-try-from.ensures.1 in
+pub returns-in-Ok-try_from : goal.returns-in-Ok-try_from
+returns-in-Ok-try_from c =
+    let h = c.in-Ok-try_from.ensures.1 in
     let r = take_rest c.args.digits.now 2 in
     let own = h.same ∙ r in
     record { value = ap (λ (f : List ℕ). Ok (row (task_of f))) own ∙ as_row c.args.line (get_or c.args.bytes.now 0 0) (drop 2 c.args.digits.now) c.in-2.is (sym (ap length r) ∙ h.long) }
 
-pub returns-in-Err-try-from : goal.returns-in-Err-try-from
-returns-in-Err-try-from c = record { value = sym (no_frame c.args.line (get_or c.args.bytes.now 0 0) (drop 2 c.args.digits.now) (λ e. absurd (omega (arith, c.in-2.is))) (λ _ e. c.in-Err-try-from.ensures.1 (ap length (take_rest c.args.digits.now 2) ∙ e)) (λ e. absurd (omega (arith, c.in-2.is)))) }
+pub returns-in-Err-try_from : goal.returns-in-Err-try_from
+returns-in-Err-try_from c = record { value = sym (no_frame c.args.line (get_or c.args.bytes.now 0 0) (drop 2 c.args.digits.now) (λ e. absurd (omega (arith, c.in-2.is))) (λ _ e. c.in-Err-try_from.ensures.1 (ap length (take_rest c.args.digits.now 2) ∙ e)) (λ e. absurd (omega (arith, c.in-2.is)))) }
 
-pub returns-then-is-empty : goal.returns-then-is-empty
-returns-then-is-empty c =
-    let none = eqb-true (length (take (length c.args.bytes.now - 1) (drop 1 c.args.bytes.now))) 0 (sym c.if-is-empty.ensures) in
-    record { value = as_close c.args.line (get_or c.args.bytes.now 0 0) (drop 2 c.args.digits.now) c.in-3.is (omega (arith, long (goal.at.returns-then-is-empty c).In-len1-up)) }
+pub returns-then-is_empty : goal.returns-then-is_empty
+returns-then-is_empty c =
+    let none = eqb-true (length (take (length c.args.bytes.now - 1) (drop 1 c.args.bytes.now))) 0 (sym c.if-is_empty.ensures) in
+    record { value = as_close c.args.line (get_or c.args.bytes.now 0 0) (drop 2 c.args.digits.now) c.in-3.is (omega (arith, long (goal.at.returns-then-is_empty c).In-len1-up)) }
 
-pub returns-else-is-empty : goal.returns-else-is-empty
-returns-else-is-empty c =
-    let some = eqb-false (length (take (length c.args.bytes.now - 1) (drop 1 c.args.bytes.now))) 0 (sym c.if-is-empty.ensures) in
-    record { value = sym (no_frame c.args.line (get_or c.args.bytes.now 0 0) (drop 2 c.args.digits.now) (λ k. absurd (omega (arith, c.in-3.is))) (λ k. absurd (omega (arith, c.in-3.is))) (λ k l. some (omega (arith, long (goal.at.returns-else-is-empty c).In-len1-up)))) }
+pub returns-else-is_empty : goal.returns-else-is_empty
+returns-else-is_empty c =
+    let some = eqb-false (length (take (length c.args.bytes.now - 1) (drop 1 c.args.bytes.now))) 0 (sym c.if-is_empty.ensures) in
+    record { value = sym (no_frame c.args.line (get_or c.args.bytes.now 0 0) (drop 2 c.args.digits.now) (λ k. absurd (omega (arith, c.in-3.is))) (λ k. absurd (omega (arith, c.in-3.is))) (λ k l. some (omega (arith, long (goal.at.returns-else-is_empty c).In-len1-up)))) }
 
-pub returns-in-default : goal.returns-in-default
-returns-in-default c = record { value = sym (no_frame c.args.line (get_or c.args.bytes.now 0 0) (drop 2 c.args.digits.now) (λ k. absurd (omega arith)) (λ k. absurd (omega arith)) (λ k. absurd (omega arith))) }
+pub returns-in_default : goal.returns-in_default
+returns-in_default c = record { value = sym (no_frame c.args.line (get_or c.args.bytes.now 0 0) (drop 2 c.args.digits.now) (λ k. absurd (omega arith)) (λ k. absurd (omega arith)) (λ k. absurd (omega arith))) }

@@ -14,4 +14,4 @@ pub returns : goal.returns
 returns c =
     let ds = c.args.digits.now in
     let e = first_byte c.decode.new.bytes ds (omega arith) c.decode.ensures.each in
-    record { value = c.by-kind.ensures.value ∙ ap (λ k. framed c.args.line k (drop 2 ds)) e }
+    record { value = c.by_kind.ensures.value ∙ ap (λ k. framed c.args.line k (drop 2 ds)) e }

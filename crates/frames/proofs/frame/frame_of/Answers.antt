@@ -7,11 +7,11 @@ use Rattle.frames.proofs.frame.frame_of.Goals as goal
 pub returns : goal.returns
 returns c =
     let line = c.args.line in
-    let v = c.decoded.ensures.value ∙ good_digits line.number line.digits.now c.in-ok-check-digits.field-0 c.in-ok-check-digits.ensures.value in
+    let v = c.decoded.ensures.value ∙ good_digits line.number line.digits.now c.in_ok-check_digits.field-0 c.in_ok-check_digits.ensures.value in
     record { value = v; exactly = reads_exactly line.number line.digits.now (shown c.decoded.result) v }
 
-pub returns-in-err-check-digits : goal.returns-in-err-check-digits
-returns-in-err-check-digits c =
+pub returns-in_err-check_digits : goal.returns-in_err-check_digits
+returns-in_err-check_digits c =
     let line = c.args.line in
-    let v : shown c.from-residual.result ≡ frame_of line.number line.digits.now = search rules in
-    record { value = v; exactly = reads_exactly line.number line.digits.now (shown c.from-residual.result) v }
+    let v : shown c.from_residual.result ≡ frame_of line.number line.digits.now = search rules in
+    record { value = v; exactly = reads_exactly line.number line.digits.now (shown c.from_residual.result) v }

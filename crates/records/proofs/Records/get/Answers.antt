@@ -9,4 +9,4 @@ at xs i None h = sym (slice_get_past xs i h)
 at xs i (Some x) h = sym (slice_get_read xs (length xs) i x refl h.0 h.1)
 
 pub returns : goal.returns
-returns g c = record { value = at c.as-slice.result.now c.args.i c.copied.result (search rules) ∙ ap (λ xs. slice_get xs c.args.i) c.as-slice.ensures.value }
+returns g c = record { value = at c.as_slice.result.now c.args.i c.copied.result (search rules) ∙ ap (λ xs. slice_get xs c.args.i) c.as_slice.ensures.value }

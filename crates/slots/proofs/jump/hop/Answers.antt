@@ -17,5 +17,5 @@ returns-then-divisor-own c =
 
 pub returns-else-divisor-own : goal.returns-else-divisor-own
 returns-else-divisor-own c =
-    let is : Some c.past-end.result ≡ hop_over c.args.own.now c.args.other.now c.args.divisor = grind (arith, nat_tests) in
-    record { value = is; next = by_value c.args.own.now c.args.other.now c.args.divisor (Some c.past-end.result) is }
+    let is : Some c.past_end.result ≡ hop_over c.args.own.now c.args.other.now c.args.divisor = grind (arith, nat_tests) in
+    record { value = is; next = by_value c.args.own.now c.args.other.now c.args.divisor (Some c.past_end.result) is }
