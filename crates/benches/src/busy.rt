@@ -5,7 +5,7 @@ use crate::bench::Bench;
 
 // Whether there is such a controller and it is busy.
 fn is_busy<B: Bench>(bench: &B, controller: u8) -> bool
-    ensures value { result ≡ busy_at (meaning bench.now) controller }
+    ensures value { result ≡ busy_at (B.meaning bench.now) controller }
 {
     match bench.state(controller) {
         Ok(Some(_)) => true,
@@ -16,7 +16,7 @@ fn is_busy<B: Bench>(bench: &B, controller: u8) -> bool
 
 // The busy controllers, a bit for each.
 pub fn busy_set<B: Bench>(bench: &B) -> u8
-    ensures value { result ≡ busy_set (meaning bench.now) }
+    ensures value { result ≡ busy_set (B.meaning bench.now) }
 {
     let mut set: u8 = 0;
     for i in 0..bench.count() {
@@ -29,14 +29,14 @@ pub fn busy_set<B: Bench>(bench: &B) -> u8
 
 // How many controllers are busy.
 pub fn busy_count<B: Bench>(bench: &B) -> u8
-    ensures value { result ≡ busy_count (meaning bench.now) }
+    ensures value { result ≡ busy_count (B.meaning bench.now) }
 {
     busy_set(bench).count_ones() as u8
 }
 
 // The lowest controller that is busy, if any is.
 pub fn lowest_busy<B: Bench>(bench: &B) -> Option<u8>
-    ensures value { result ≡ lowest_busy (meaning bench.now) }
+    ensures value { result ≡ lowest_busy (B.meaning bench.now) }
 {
     let set = busy_set(bench);
     if set == 0 {

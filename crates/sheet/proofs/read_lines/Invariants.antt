@@ -6,5 +6,5 @@ use Rattle.sheet.proofs.read_lines.Given as goal
 
 abbrev pub invariant-loop-i : goal.invariant-loop-i
 invariant-loop-i l =
-    Sofar l.bytes (lent l.initial.rows) l.m l.tasks l.-i l.reader.line (left l.reader) (kept l.rows) (lent l.rows) l.rows.len
+    Sofar l.bytes (lent l.initial.rows) l.m l.tasks l._i l.reader.line (left l.reader) (kept l.rows) (lent l.rows) l.rows.len
     × (l.rows.places.ghost_name ≡ l.initial.rows.places.ghost_name)

@@ -2,7 +2,7 @@ use Rattle.std.proofs.Common.{◌<◌, ◌≤◌, length, sym, ap, ◌∙◌, ar
 use Rattle.benches.specs.Sets.{busy_set}
 use Rattle.benches.proofs.BusySets.{set_more, set_take_lt, or_bit}
 use Rattle.benches.proofs.busy.busy_set.Goals as goal
-use Rattle.benches.proofs.busy.busy_set.Goals.{then-is-busy, else-is-busy}
+use Rattle.benches.proofs.busy.busy_set.Goals.{then-is_busy, else-is_busy}
 
 pub loop-i-preserved : goal.loop-i-preserved
 loop-i-preserved g c =
@@ -13,9 +13,9 @@ loop-i-preserved g c =
     let more = set_more m i l in
     let lt = set_take_lt m i (omega arith) in
     let or = or_bit _ i lt (omega arith) in
-    elim c.if-is-busy.branch [
-      | then-is-busy w ↦ let was = w.if-is-busy.ensures.value in let is = w.set-is in let bit = simp (sym was) at more in cc
-      | else-is-busy w ↦ let was = w.if-is-busy.ensures.value in let bit = simp (sym was) at more in omega (arith, w.set-is, c.loop-i.invariant)
+    elim c.if-is_busy.branch [
+      | then-is_busy w ↦ let was = w.if-is_busy.ensures.value in let is = w.set-is in let bit = simp (sym was) at more in cc
+      | else-is_busy w ↦ let was = w.if-is_busy.ensures.value in let bit = simp (sym was) at more in omega (arith, w.set-is, c.loop-i.invariant)
     ]
 
 pub returns : goal.returns

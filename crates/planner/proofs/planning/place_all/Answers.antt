@@ -17,8 +17,8 @@ choose-requires g c =
           (λ k task e. c.requires.range k task (nth_front i tasks k task e)) c.loop-i.invariant.0;
     }
 
-pub returns-in-default : goal.returns-in-default
-returns-in-default g c =
+pub returns-in_default : goal.returns-in_default
+returns-in_default g c =
     let p = c.args.policy.now in
     let tasks = c.args.tasks.now in
     let i = c.loop-i.i in
@@ -31,7 +31,7 @@ returns-in-default g c =
           before = inv.0;
           task = get_or tasks i no_task;
           here = slice_get-get_or tasks i no_task c.loop-i-test.true;
-          none = λ k l takes. c.in-default.ensures.chosen k (omega (arith, same)) takes;
+          none = λ k l takes. c.in_default.ensures.chosen k (omega (arith, same)) takes;
         },
         inv.1,
       );

@@ -30,62 +30,55 @@ returns-in-Some g c =
       policy = refl {a = c.args.policy.now};
     }
 
-pub returns-in-Some-place-all : goal.returns-in-Some-place-all
-returns-in-Some-place-all g c =
+pub returns-in-Some-place_all : goal.returns-in-Some-place_all
+returns-in-Some-place_all g c =
     let p = c.args.policy.now in
     let tasks = c.args.tasks.now in
-    let i = c.in-Some-place-all.row in
-    let rows = take i c.place-all.new.table in
+    let i = c.in-Some-place_all.row in
+    let rows = take i c.place_all.new.table in
     let counts = sym c.count.ensures.value ∙ c.if-count-m.false in
-    let (stuck, told) = c.in-Some-place-all.ensures.places in
+    let (stuck, told) = c.in-Some-place_all.ensures.places in
     let F : ℕ → Type 0 = λ n. StuckAt g.P.Policy.meaning n p tasks i rows in
     let at : F c.args.m = subst F counts stuck in
     record {
       answer = exactly g.P.Policy.meaning g.met.P.Policy.lawful c.args.m tasks p (Err (NoController i))
-          ((c.if-m-lt1.false, c.if-m-gt8.false, c.if-tasks-gt64.false), counts, c.in-default.ensures.first, (rows, at));
+          ((c.if-m-lt1.false, c.if-m-gt8.false, c.if-tasks-gt64.false), counts, c.in_default.ensures.first, (rows, at));
       plan = refl {a = c.args.plan.now};
       policy = (rows, at, told);
     }
 
-pub invariant-of-plan : goal.invariant-of-plan
-invariant-of-plan g c =
+pub invariant_of-plan : goal.invariant_of-plan
+invariant_of-plan g c =
     let p = c.args.policy.now in
     let tasks = c.args.tasks.now in
-    let rows = take (length tasks) c.place-all.new.table in
+    let rows = take (length tasks) c.place_all.new.table in
     let counts = sym c.count.ensures.value ∙ c.if-count-m.false in
-    let all = c.in-default-place-all.ensures.places.0 in
-    let F : ℕ → Type 0 = λ n. EachOn n rows in (
-      c.place-all.auto.table,
-      (
-        c.if-m-gt8.false,
-        (
-          c.if-tasks-gt64.false,
-          (
-            ∣ placed_each_sound g.P.Policy.meaning p tasks rows c.in-default.ensures.first all ∣₁,
-            (
-              subst F counts (placed_each_on g.P.Policy.meaning p g.met.P.Policy.lawful tasks rows all),
-              (placed_apart g.P.Policy.meaning p tasks rows all, tt),
-            ),
-          ),
-        ),
-      ),
-    )
+    let all = c.in_default-place_all.ensures.places.0 in
+    let F : ℕ → Type 0 = λ n. EachOn n rows in
+    record {
+      whole = c.place_all.auto.table;
+      few = c.if-m-gt8.false;
+      short = c.if-tasks-gt64.false;
+      sound = ∣ placed_each_sound g.P.Policy.meaning p tasks rows c.in_default.ensures.first all ∣₁;
+      there = subst F counts (placed_each_on g.P.Policy.meaning p g.met.P.Policy.lawful tasks rows all);
+      apart = placed_apart g.P.Policy.meaning p tasks rows all;
+    }
 
 pub returns : goal.returns
 returns g c =
     let tasks = c.args.tasks.now in
     let n = length tasks in
-    let table = c.place-all.new.table in
+    let table = c.place_all.new.table in
     let rows = take n table in
     let counts = sym c.count.ensures.value ∙ c.if-count-m.false in
-    let (all, told) = c.in-default-place-all.ensures.places in
+    let (all, told) = c.in_default-place_all.ensures.places in
     record {
       answer = exactly g.P.Policy.meaning g.met.P.Policy.lawful c.args.m tasks c.args.policy.now (Ok tt)
-          ((c.if-m-lt1.false, c.if-m-gt8.false, c.if-tasks-gt64.false), counts, c.in-default.ensures.first, (rows, all));
+          ((c.if-m-lt1.false, c.if-m-gt8.false, c.if-tasks-gt64.false), counts, c.in_default.ensures.first, (rows, all));
       plan = record {
         wide = refl {a = c.args.m};
         placed = all;
-        rest = blank_rest n table c.place-all.ensures.rest;
+        rest = blank_rest n table c.place_all.ensures.rest;
       };
       policy = told;
     }

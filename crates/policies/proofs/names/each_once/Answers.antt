@@ -1,7 +1,7 @@
 use Rattle.std.proofs.Common.{◌≡◌, ℕ, ◌+◌, ◌-◌, ◌<◌, List, length, get_or, take, sym, refl, ap, ◌∙◌, zero-le, arith, below_more}
 use native.Mathlib.Decide.{dec_lt}
 use Rattle.std.proofs.lemmas.List.{length-take, get_or-take}
-use Rattle.std.proofs.lemmas.Bool.{false≢true}
+use Rattle.std.proofs.lemmas.Bool.{eqb-true, eqb-false}
 use Rattle.policies.specs.Names.{EachApart}
 use Rattle.policies.proofs.names.each_once.Goals as goal
 
@@ -33,11 +33,11 @@ module _ (xs : List ℕ) (i : ℕ) (l : i < length xs) where
 pub returns-then-contains : goal.returns-then-contains
 returns-then-contains c =
     let (j, h, at) = c.if-contains.ensures.cases in
-    record { once = (λ z. absurd z, λ (below, apart). twice c.args.list.now c.loop-i.i (omega arith) j h ((at 0).0 refl) apart) }
+    record { once = (λ z. absurd z, λ (below, apart). twice c.args.list.now c.loop-i.i (omega arith) j h (eqb-true _ _ (at 0)) apart) }
 
 pub loop-i-preserved : goal.loop-i-preserved
 loop-i-preserved c =
     let new = c.if-contains.ensures.cases in (
       below_more _ _ c.loop-i.invariant.0 c.if-name-list.false,
-      fresh c.args.list.now c.loop-i.i (omega arith) c.loop-i.invariant.1 (λ j h e. false≢true ((new j 0 zero-le h).1 e)),
+      fresh c.args.list.now c.loop-i.i (omega arith) c.loop-i.invariant.1 (λ j h. eqb-false _ _ (new j 0 zero-le h)),
     )

@@ -6,7 +6,7 @@ use Rattle.benches.proofs.register.RegisterBenchBench.end.Goals as goal
 
 pub returns : goal.returns
 returns c =
-    let e = c.end-in.ensures in
+    let e = c.end_in.ensures in
     let bytes = c.args.self.now.bytes.now in
     let i = c.args.controller in
     let after = ap shown_by e.after ∙ end_shown bytes i in
@@ -14,7 +14,7 @@ returns c =
       answer = e.answer;
       after = after;
       others = end_others _ _ i after;
-      fixed = ap (around c.args.self.now.bytes.name) e.after ∙ end_around _ bytes i;
+      fixed = ap (around c.args.self.now.bytes.ghost_name) e.after ∙ end_around _ bytes i;
       same = refl;
       bytes = e.after;
     }

@@ -10,8 +10,8 @@ returns-in-0 c =
     let w : c.args.controller < length (shown_by b) = omega arith in
     record { answer = ap Ok (sym (shown_at b _ w ∙ ap decoded c.in-0.is)) ∙ state_is (shown_by b) _ w }
 
-pub returns-in-default : goal.returns-in-default
-returns-in-default c =
+pub returns-in_default : goal.returns-in_default
+returns-in_default c =
     let b = c.args.self.now.bytes.now in
     let w : c.args.controller < length (shown_by b) = omega arith in
     let p : 0 < get_or b (c.args.controller + 1) 0 = omega arith in

@@ -11,12 +11,12 @@ returns-then-controller-self c =
     let d = start_none (held_by s) i c.args.row (beyond _ _ _ c.if-controller-self.true) in
     record { answer = d.answer; after = d.after; others = start_others _ _ i c.args.row d.after; fixed = refl }
 
-pub returns-then-row-gt-HIGHEST-ROW : goal.returns-then-row-gt-HIGHEST-ROW
-returns-then-row-gt-HIGHEST-ROW c =
+pub returns-then-row-gt-HIGHEST_ROW : goal.returns-then-row-gt-HIGHEST_ROW
+returns-then-row-gt-HIGHEST_ROW c =
     let s = c.args.self.now in
     let i = c.args.controller in
     let w : i < length (held_by s) = within _ _ _ (omega (arith, s.few, s.whole)) c.if-controller-self.false in
-    let d = start_row (held_by s) i c.args.row w c.if-row-gt-HIGHEST-ROW.true in
+    let d = start_row (held_by s) i c.args.row w c.if-row-gt-HIGHEST_ROW.true in
     record { answer = d.answer; after = d.after; others = start_others _ _ i c.args.row d.after; fixed = refl }
 
 pub returns-in-Some : goal.returns-in-Some
@@ -25,7 +25,7 @@ returns-in-Some c =
     let i = c.args.controller in
     let l = c.if-controller-self.false in
     let w : i < length (held_by s) = within _ _ _ (omega (arith, s.few, s.whole)) l in
-    let d = start_busy (held_by s) i c.args.row _ w c.if-row-gt-HIGHEST-ROW.false (get_or-take _ _ _ _ l ∙ c.in-Some.is) in
+    let d = start_busy (held_by s) i c.args.row _ w c.if-row-gt-HIGHEST_ROW.false (get_or-take _ _ _ _ l ∙ c.in-Some.is) in
     record { answer = d.answer; after = d.after; others = start_others _ _ i c.args.row d.after; fixed = refl }
 
 pub returns-in-None : goal.returns-in-None
@@ -34,6 +34,6 @@ returns-in-None c =
     let i = c.args.controller in
     let l = c.if-controller-self.false in
     let w : i < length (held_by s) = within _ _ _ (omega (arith, s.few, s.whole)) l in
-    let d = start_done (held_by s) i c.args.row w c.if-row-gt-HIGHEST-ROW.false (get_or-take _ _ _ _ l ∙ c.in-None.is) in
+    let d = start_done (held_by s) i c.args.row w c.if-row-gt-HIGHEST_ROW.false (get_or-take _ _ _ _ l ∙ c.in-None.is) in
     let after = take-set-lt _ _ _ _ l ∙ d.after in
     record { answer = d.answer; after = after; others = start_others _ _ i c.args.row after; fixed = refl }
