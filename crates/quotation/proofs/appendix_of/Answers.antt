@@ -5,7 +5,7 @@ pub returns : goal.returns
 returns c =
     let sheet = c.args.sheet.now in
     let before = c.args.out.now in
-    let r = c.read-plan-write.result in
-    let next = c.read-plan-write.new.out in
-    let q = c.read-plan-write.ensures.quoted in
-    record { quoted = q; only = only sheet before r next q; bound = within sheet before r next q c.read-plan-write.ensures.small }
+    let r = c.read_plan_write.result in
+    let next = c.read_plan_write.new.out in
+    let q = c.read_plan_write.ensures.quoted in
+    record { quoted = q; only = only sheet before r next q; bound = within sheet before r next q c.read_plan_write.ensures.small }

@@ -23,9 +23,9 @@ returns c =
     let before = c.args.out.now in
     let rows = c.rows-rows.result.now in
     let n = 10 + 15 * length rows in
-    let out = c.put-line-2.new.out in
-    let all = whole c.controllers.result rows before c.put-line.new.out c.put-rows.new.out out c.if-out-length.false
-    c.put-line.ensures.after c.put-rows.ensures.after c.put-line-2.ensures.after in
+    let out = c.put_line-2.new.out in
+    let all = whole c.controllers.result rows before c.put_line.new.out c.put_rows.new.out out c.if-out-length.false
+    c.put_line.ensures.after c.put_rows.ensures.after c.put_line-2.ensures.after in
     let M : ℕ → Type 0 = λ m. Wrote (appendix_text m rows) before (Ok n) out in
     let F : List Row → Type 0 = λ rs. Wrote (appendix_text plan.controllers rs) before (Ok n) out in
     record { wrote = subst F c.rows-rows.ensures.value (subst M c.controllers.ensures.value all); bound = omega (arith, ap length c.rows-rows.ensures.value, c.rows-rows.ensures.stands.short); telling = texts_tell_quotes }

@@ -5,5 +5,5 @@ use Rattle.printout.proofs.refusal.numbered_line.Goals as goal
 
 pub returns : goal.returns
 returns c =
-    let v : c.put-line.new.out ≡ refusal_text c.args.number c.args.layer c.args.place = search rules in
-    record { value = v; reads_back = reads_back c.args.number c.args.layer c.args.place (omega arith) (omega arith) c.put-line.new.out v }
+    let v : c.put_line.new.out ≡ refusal_text c.args.number c.args.layer c.args.place = search rules in
+    record { value = v; reads_back = reads_back c.args.number c.args.layer c.args.place (omega arith) (omega arith) c.put_line.new.out v }
