@@ -1,4 +1,6 @@
 // Reads a task sheet from standard input and prints the appendix of its plan, or the line of its refusal.
+#![tactic(auto)]
+
 use printout::refusal_line;
 use quotation::appendix_of;
 use std::io;

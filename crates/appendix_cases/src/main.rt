@@ -1,5 +1,7 @@
 // Reads the table of sheets in `stdin` and prints the appendix or the refusal of each; `stdout` holds what should come.
 // A row is BYTES NAME: SHEET, where BYTES are lent for the appendix and / stands for the end of a line.
+#![tactic(auto)]
+
 use anyhow::anyhow;
 use printout::refusal_line;
 use quotation::appendix_of;

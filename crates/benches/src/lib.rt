@@ -1,4 +1,6 @@
 // Benches: a few controllers, each idle or busy with a row.
+#![tactic(auto)]
+
 mod bench;
 mod busy;
 mod interlock;

@@ -1,4 +1,6 @@
 // Digits in base sixteen, as sheets and appendices write them.
+#![tactic(auto)]
+
 ghost use Rattle.std.specs.Prelude.{◌≡◌, ℕ, ◌<◌, ◌↔◌, Some, slice_index};
 ghost use Rattle.digits.specs.Digits.{byte_of, chart, digit as digitOf, is_digit, printed, two_digits};
 

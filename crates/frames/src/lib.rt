@@ -1,4 +1,6 @@
 // The frames of a task sheet: a line's digits, decoded and taken apart.
+#![tactic(auto)]
+
 mod decode;
 mod fields;
 mod frame;

@@ -1,4 +1,6 @@
 // Plans: which controller runs which task, and from which start in each mode.
+#![tactic(auto)]
+
 mod place;
 mod planning;
 mod plans;

@@ -1,5 +1,5 @@
 -- Lists of names that hold each controller once.
-use Rattle.std.specs.Prelude.{◌≡◌, ℕ, ◌<◌, List, length, ◌≢◌, slice_index}
+use Rattle.std.specs.Prelude.{ℕ, ◌<◌, List, length, ◌≢◌, slice_index}
 use Rattle.policies.specs.Orders.{by_place}
 
 -- Each of the first n names is below m.

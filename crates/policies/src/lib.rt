@@ -1,4 +1,6 @@
 // Policies: in which order the controllers are tried for a task. Each proves that its order leaves out no controller.
+#![tactic(auto)]
+
 mod count;
 mod ends;
 mod front;

@@ -1,4 +1,6 @@
 // What is printed: the appendix of a plan, and the line of a refusal.
+#![tactic(auto)]
+
 mod appendix;
 mod line;
 mod refusal;

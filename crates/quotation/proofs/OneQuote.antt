@@ -6,7 +6,6 @@ use Rattle.policies.specs.Meanings.{front_means}
 use Rattle.policies.specs.declared.front.Front.{Front}
 use Rattle.policies.specs.Arranged.{front_lawful}
 use Rattle.sheet.specs.Reading.{read_sheet}
-use Rattle.sheet.specs.Text.{text}
 use Rattle.sheet.proofs.Exact.{text_taken}
 use Rattle.tasks.specs.Tasks.{InRange}
 use Rattle.tasks.specs.declared.fault.AppendixFault.{AppendixFault}

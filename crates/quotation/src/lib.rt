@@ -1,4 +1,6 @@
 // From the bytes of a task sheet to the bytes of its appendix: read, plan with the controllers tried from 0 upward, write.
+#![tactic(auto)]
+
 ghost use Rattle.std.specs.Prelude.{◌≤◌, length, IfOk};
 ghost use Rattle.quotation.specs.Quotations.{Only, Quoted};
 

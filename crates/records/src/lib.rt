@@ -1,4 +1,6 @@
 // One list for any kind of record, kept in places that the caller lends.
+#![tactic(auto)]
+
 ghost use Rattle.std.specs.Prelude.{◌≤◌, length};
 
 mod methods;

@@ -1,4 +1,6 @@
 // Task sheets: the reader that walks a sheet, and the call that reads one into a list of tasks.
+#![tactic(auto)]
+
 ghost use Rattle.std.specs.Prelude.{length};
 ghost use Rattle.records.specs.Lists.{kept, lent};
 ghost use Rattle.sheet.specs.Delivers.{Delivered};

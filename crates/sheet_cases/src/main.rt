@@ -1,5 +1,7 @@
 // Reads the table of sheets in `stdin` and prints what comes of each; `stdout` holds what should.
 // A row is PLACES NAME: SHEET, where / stands for the end of a line and ~ for a carriage return.
+#![tactic(auto)]
+
 use anyhow::anyhow;
 use records::Records;
 use sheet::read_sheet;

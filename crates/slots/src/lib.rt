@@ -1,4 +1,6 @@
 // Periodic slots: when one is on, whether two ever meet, and how far on a slot must start so as to miss another.
+#![tactic(auto)]
+
 mod circle;
 mod divisor;
 mod jump;

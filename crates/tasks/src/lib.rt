@@ -1,4 +1,6 @@
 // Tasks, the modes of a bench, and why something is sent back.
+#![tactic(auto)]
+
 mod fault;
 mod mode;
 mod refusal;
