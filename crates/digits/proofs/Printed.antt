@@ -2,7 +2,7 @@
 use Rattle.std.proofs.Common.{◌≡◌, ℕ, zero, suc, ◌+◌, ◌*◌, ◌/◌, ◌%◌, ◌<◌, ◌≤◌, Bool, true, false, cond, List, [], ◌∷◌, length, get_or, refl, mod-lt, mul_comm, div-lt_iff_lt-mul, one-add, arith, rules}
 use native.Mathlib.Nat.{div-add-mod}
 use lib.Arith.{digits_div, digits_mod}
-use Rattle.std.specs.List.{flat_map, prefix_len, AllByRecursion as All}
+use Rattle.std.specs.List.{flat_map, prefix_len, AllByRecursion}
 use Rattle.digits.specs.Digits.{value, is_digit, printed, two_digits, byte_of}
 
 -- a byte's two digits read back as the byte
@@ -24,7 +24,7 @@ digit_printed v l = search rules
 
 -- every byte of a list is a digit
 abbrev pub Digits : List ℕ → Type 0
-Digits ds = All (λ d. is_digit d ≡ true) ds
+Digits ds = AllByRecursion (λ d. is_digit d ≡ true) ds
 
 -- two digits are those printed for their byte
 pub same_digits : (a b : ℕ) → is_digit a ≡ true → is_digit b ≡ true → two_digits (byte_of a b) ≡ a ∷ b ∷ []
@@ -39,7 +39,7 @@ pub byte_below : (a b : ℕ) → byte_of a b < 256
 byte_below a b = omega (arith, value_below a, value_below b)
 
 -- what is printed for bytes are digits
-pub digits_printed : (bs : List ℕ) → All (λ b. b < 256) bs → Digits (flat_map two_digits bs)
+pub digits_printed : (bs : List ℕ) → AllByRecursion (λ b. b < 256) bs → Digits (flat_map two_digits bs)
 digits_printed [] h = tt
 digits_printed (b ∷ bs) h = (digit_printed (b / 16) ((div-lt_iff_lt-mul (omega arith)).1 (omega (arith, h.0))), (digit_printed (b % 16) (mod-lt b (omega arith)), digits_printed bs h.1))
 

@@ -1,7 +1,7 @@
 -- A line is a frame exactly when it is the digits of what it tells.
 use Rattle.std.proofs.Common.{◌≡◌, ℕ, zero, suc, ◌+◌, ◌*◌, ◌/◌, ◌%◌, ◌<◌, Bool, true, false, cond, ◌&&◌, eqb, ltb, ◌⊎◌, List, [], ◌∷◌, ◌++◌, length, get_or, drop, Ok, Err, Result, sym, refl, ap, ◌∙◌, subst, inl, inr, ⊎_elim, mul_comm, arith, lit<}
 use lib.Arith.{digits_div, digits_mod}
-use Rattle.std.specs.List.{flat_map, prefix_len, AllByRecursion as All}
+use Rattle.std.specs.List.{flat_map, prefix_len, AllByRecursion}
 use Rattle.std.proofs.lemmas.List.{drop_more, drop_all, nil_from_length}
 use Rattle.std.proofs.lemmas.Bool.{ltb-false, le-ltb, eqb-true, and_parts}
 use Rattle.digits.specs.Digits.{is_digit, two_digits, byte_of, byte_at, word_at}
@@ -117,7 +117,7 @@ module _ (a b : ℕ) (fields : List ℕ) (da : is_digit a ≡ true) (db : is_dig
     | inr n ↦ ⊎_elim
         (λ m. subst (Texts (a ∷ b ∷ fields)) (sym m.2) (
           first_two 2 m.0 ∙ ap (λ fs. two_digits 2 ++ fs) (parts 10 0 fields m.1 df) ∙ ap (flat_map two_digits) (sym (task_bytes fields)),
-          subst (All (λ x. x < 256)) (sym (task_bytes fields)) (lit< tt, all_small 10 0),
+          subst (AllByRecursion (λ x. x < 256)) (sym (task_bytes fields)) (lit< tt, all_small 10 0),
         ))
         (λ m. subst (Texts (a ∷ b ∷ fields)) (sym m.2) (
           first_two 3 m.0 ∙ ap (λ fs. two_digits 3 ++ fs) (nil_from_length fields m.1),
@@ -126,7 +126,7 @@ module _ (a b : ℕ) (fields : List ℕ) (da : is_digit a ≡ true) (db : is_dig
         n
   ]
     where
-      all_small : (k i : ℕ) → All (λ x. x < 256) (bytes_from k i fields)
+      all_small : (k i : ℕ) → AllByRecursion (λ x. x < 256) (bytes_from k i fields)
       all_small = elim [ zero ↦ (λ i. tt) | suc (k → ih) ↦ (λ i. (byte_small fields i, ih (i + 1))) ]
 
 -- where the digits pass, the line is the text of what it tells

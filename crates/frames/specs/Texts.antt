@@ -1,6 +1,6 @@
 -- The text of a frame, and that a line is a frame exactly when it is the text of one.
 use Rattle.std.specs.Prelude.{◌≡◌, ℕ, ◌<◌, ◌↔◌, List, [], ◌∷◌, ◌++◌, Ok, Result}
-use Rattle.std.specs.List.{flat_map, AllByRecursion as All}
+use Rattle.std.specs.List.{flat_map, AllByRecursion}
 use Rattle.digits.specs.Digits.{two_bytes, two_digits}
 use Rattle.tasks.specs.declared.fault.FrameFault.{FrameFault}
 use Rattle.frames.specs.Frames.{Told, opening, row, close}
@@ -23,7 +23,7 @@ line_text told = frame_digits told ++ 10 ∷ []
 
 -- every byte of a frame is a byte
 abbrev pub Fits : Told → Type 0
-Fits told = All (λ b. b < 256) (frame_bytes told)
+Fits told = AllByRecursion (λ b. b < 256) (frame_bytes told)
 
 -- a line is read as a frame exactly when its digits are those of that frame
 abbrev pub ReadsExactly : List ℕ → Result Told FrameFault → Type 0

@@ -193,7 +193,7 @@ ended_on (Row r) = 0
 ended_on Status = 0
 
 -- What the laws on commands ask of a report or a strike on c.
-end-command
+end_command
     : {m : ℕ} {h : Told} (call : Call) (c : ℕ) (a : Answer) → ((2 ≤ tells call) × (tells call ≤ 3)) → ended_on call ≡ c
     → (m ≤ c → a ≡ refuse 11 6 c) → (c < m → h.running c ≡ None → a ≡ refuse 12 6 c)
     → ((j : Job) → h.running c ≡ Some j → a ≡ Done)

@@ -1,6 +1,6 @@
 -- One thing comes of a sheet.
 use Rattle.std.proofs.Common.{◌≡◌, ℕ, ◌≤◌, List, length, IfOk, Ok, Err, Result, sym, ap, ◌∙◌, subst, arith}
-use Rattle.std.specs.List.{AllByRecursion as All}
+use Rattle.std.specs.List.{AllByRecursion}
 use Rattle.std.proofs.ByRecursion.{All-get_or}
 use Rattle.policies.specs.Meanings.{front_means}
 use Rattle.policies.specs.declared.front.Front.{Front}
@@ -53,7 +53,7 @@ written_one sheet before a b x y (m, rows, plan, wrote) (n, others, plan', wrote
     wrote_one (appendix_text n others) before a b x y (subst W (λ i. appendix_text (e i) (f i)) wrote) wrote'
 
 -- tasks of a valid sheet are in range
-each_in_range : (tasks : List Task) → All InRange tasks → EachInRange tasks
+each_in_range : (tasks : List Task) → AllByRecursion InRange tasks → EachInRange tasks
 each_in_range tasks all i task at =
     subst InRange (nth_is tasks i task task at) (All-get_or InRange tasks i task (nth_inside tasks i task at) all)
 

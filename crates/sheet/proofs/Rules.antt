@@ -1,6 +1,6 @@
 -- The rules that the reader checks row by row are those of a whole sheet.
 use Rattle.std.proofs.Common.{◌≡◌, ℕ, ◌/◌, ◌%◌, ◌<◌, ◌≤◌, Bool, true, false, ◌||◌, eqb, ltb, List, [], ◌∷◌, ◌++◌, sym, refl, subst, ⊎_elim, mod-lt, div-lt_iff_lt-mul, arith, lit<}
-use Rattle.std.specs.List.{AllByRecursion as All}
+use Rattle.std.specs.List.{AllByRecursion}
 use Rattle.std.proofs.lemmas.List.{append-nil, append_assoc}
 use Rattle.std.proofs.ByRecursion.{All-push}
 use Rattle.std.proofs.lemmas.Bool.{ltb-false, le-ltb, eqb-false, ne_eqb, cases_lt}
@@ -35,16 +35,16 @@ range_fits t id r =
     let c : budget t 1 ≤ 60000 = ⊎_elim (λ none. omega (arith, r.blank 1 none)) (λ one. omega (arith, r.within 1 one)) (cases_lt t.level 1) in
     (lit< tt, (omega arith, (omega (arith, r.level), (small_word t.period r.period.1, (low t.period, (small_word t.deadline d, (low t.deadline, (small_word (budget t 0) e, (low (budget t 0), (small_word (budget t 1) c, (low (budget t 1), tt)))))))))))
 
-all_mid : (P : Task → Type 0) (xs : List Task) (y : Task) (ys : List Task) → All P (xs ++ y ∷ ys) → P y
+all_mid : (P : Task → Type 0) (xs : List Task) (y : Task) (ys : List Task) → AllByRecursion P (xs ++ y ∷ ys) → P y
 all_mid P [] y ys h = h.0
 all_mid P (x ∷ xs) y ys h = all_mid P xs y ys h.1
 
 module _ (R : Task → Task → Type 0) where
-  later_push : (xs : List Task) (y : Task) → EachToLater R xs → All (λ x. R x y) xs → EachToLater R (xs ++ y ∷ [])
+  later_push : (xs : List Task) (y : Task) → EachToLater R xs → AllByRecursion (λ x. R x y) xs → EachToLater R (xs ++ y ∷ [])
   later_push [] y h a = (tt, tt)
   later_push (x ∷ xs) y h a = (All-push (R x) xs y h.0 a.0, later_push xs y h.1 a.1)
 
-  later_mid : (xs : List Task) (y : Task) (ys : List Task) → EachToLater R (xs ++ y ∷ ys) → All (λ x. R x y) xs
+  later_mid : (xs : List Task) (y : Task) (ys : List Task) → EachToLater R (xs ++ y ∷ ys) → AllByRecursion (λ x. R x y) xs
   later_mid [] y ys h = tt
   later_mid (x ∷ xs) y ys h = (all_mid (R x) xs y ys h.0, later_mid xs y ys h.1)
 
@@ -53,21 +53,21 @@ or_left : (a b : Bool) → (a || b) ≡ false → (a ≡ false) × (b ≡ false)
 or_left true b e = (e, absurd (let z : ◌≡◌ {A = ℕ} 0 1 = cc in omega arith))
 or_left false b e = (refl, e)
 
-free_id : (id : ℕ) (rows : List Task) → used id rows ≡ false → All (λ r. r.id ≡ id → ⊥) rows
+free_id : (id : ℕ) (rows : List Task) → used id rows ≡ false → AllByRecursion (λ r. r.id ≡ id → ⊥) rows
 free_id id [] e = tt
 free_id id (r ∷ rows) e = let p = or_left (eqb r.id id) (used id rows) e in (eqb-false r.id id p.0, free_id id rows p.1)
 
-id_free : (id : ℕ) (rows : List Task) → All (λ r. r.id ≡ id → ⊥) rows → used id rows ≡ false
+id_free : (id : ℕ) (rows : List Task) → AllByRecursion (λ r. r.id ≡ id → ⊥) rows → used id rows ≡ false
 id_free id [] h = refl
 id_free id (r ∷ rows) h = rw (ne_eqb r.id id h.0) (id_free id rows h.1)
 
 -- the last period is the greatest
-last_low : (p : ℕ) (rows : List Task) → All (λ r. r.period ≤ p) rows → last_period rows ≤ p
+last_low : (p : ℕ) (rows : List Task) → AllByRecursion (λ r. r.period ≤ p) rows → last_period rows ≤ p
 last_low p [] h = omega arith
 last_low p (r ∷ []) h = h.0
 last_low p (r ∷ s ∷ rows) h = last_low p (s ∷ rows) h.1
 
-low_last : (p : ℕ) (rows : List Task) → EachToLater Rising rows → last_period rows ≤ p → All (λ r. r.period ≤ p) rows
+low_last : (p : ℕ) (rows : List Task) → EachToLater Rising rows → last_period rows ≤ p → AllByRecursion (λ r. r.period ≤ p) rows
 low_last p [] h l = tt
 low_last p (r ∷ []) h l = (l, tt)
 low_last p (r ∷ s ∷ rows) h l = let rest = low_last p (s ∷ rows) h.1 l in (omega (arith, h.0.0, rest.0), rest)

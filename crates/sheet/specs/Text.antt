@@ -1,6 +1,6 @@
 -- The text of a sheet, and when m and rows keep every rule.
 use Rattle.std.specs.Prelude.{◌≡◌, ℕ, ◌≤◌, ◌↔◌, List, [], ◌∷◌, length, Ok, Result}
-use Rattle.std.specs.List.{flat_map, AllByRecursion as All}
+use Rattle.std.specs.List.{flat_map, AllByRecursion}
 use Rattle.frames.specs.Texts.{line_text}
 use Rattle.tasks.specs.declared.task.Task.{Task}
 use Rattle.tasks.specs.Counts.{Few}
@@ -20,7 +20,7 @@ text m rows = flat_map line_text (opening m (length rows) ∷ rows_and_close row
 -- each row stands so to every later row
 abbrev pub EachToLater : (Task → Task → Type 0) → List Task → Type 0
 EachToLater R [] = Unit {0}
-EachToLater R (t ∷ rows) = All (R t) rows × EachToLater R rows
+EachToLater R (t ∷ rows) = AllByRecursion (R t) rows × EachToLater R rows
 
 -- two tasks have different ids
 abbrev pub Apart : Task → Task → Type 0
@@ -32,8 +32,8 @@ Rising a b = a.period ≤ b.period
 
 -- the rows keep every rule over rows
 pub record RowsValid (rows : List Task) : Type 0 where
-  pub ids : All (λ t. t.id ≤ 255) rows
-  pub numbers : All InRange rows
+  pub ids : AllByRecursion (λ t. t.id ≤ 255) rows
+  pub numbers : AllByRecursion InRange rows
   pub apart : EachToLater Apart rows
   pub rising : EachToLater Rising rows
 
