@@ -1,5 +1,5 @@
 -- The busy controllers, as the bench counts them and as the machine does.
-use Rattle.std.proofs.Common.{◌≡◌, ℕ, zero, suc, ◌+◌, Bool, true, false, cond, List, [], ◌∷◌, length, get_or, is_some, Some, None, Option, sym, refl, ap, ◌∙◌, ap₂, add-one, arith}
+use Rattle.std.proofs.Common.{◌≡◌, ℕ, zero, suc, ◌+◌, Bool, true, false, cond, [], ◌∷◌, length, get_or, is_some, Some, None, Option, sym, refl, ap, ◌∙◌, add-one, arith}
 use Rattle.benches.specs.Commands.{States}
 use Rattle.benches.specs.Sets.{busy_count, lowest_busy, lowest_from, one_if_busy, one_up}
 use Rattle.machine.specs.Below.{count_below, first_below, or_else}

@@ -1,6 +1,6 @@
 -- What a call leaves, by its answer.
-use Rattle.std.proofs.Common.{◌≡◌, ℕ, zero, suc, ◌+◌, ◌-◌, ◌*◌, ◌^◌, ◌<◌, ◌≤◌, Bool, true, false, cond, eqb, ltb, leb, List, [], ◌∷◌, ◌++◌, length, take, drop, set, replicate, IsErrAnd, Some, None, Ok, Err, Option, Result, sym, refl, ap, ◌∙◌, subst, ap₂, arith}
-use Rattle.std.proofs.lemmas.List.{take-append-drop, take_at}
+use Rattle.std.proofs.Common.{◌≡◌, ℕ, ◌+◌, ◌*◌, ◌<◌, ◌≤◌, Bool, true, false, cond, eqb, ltb, leb, List, ◌++◌, length, take, drop, set, IsErrAnd, None, Ok, Err, Option, Result, sym, refl, ap, ◌∙◌, subst, ap₂, arith}
+use Rattle.std.proofs.lemmas.List.{take-append-drop}
 use Rattle.std.proofs.lemmas.Result.{err_from_is_err_and}
 use Rattle.std.proofs.lemmas.Bool.{cond-true, cond-false, le-leb, le-ltb, lt-leb, lt-ltb}
 use Rattle.records.specs.Lists.{kept, lent}
@@ -10,15 +10,13 @@ use Rattle.tasks.specs.declared.fault.BenchFault.{BenchFault}
 use Rattle.tasks.specs.declared.fault.ControlFault.{ControlFault}
 use Rattle.tasks.specs.declared.fault.ControlFault.TheVariants.{Bench, NotLoaded, Over, Places}
 use Rattle.benches.specs.Commands.{States, by_answer, end_after, end_answer as bench_end}
-use Rattle.machine.specs.Entries.{events_of, written}
+use Rattle.machine.specs.Entries.{written}
 use Rattle.machine.specs.Below.{first_below}
 use Rattle.machine.specs.Machine.{State, acts, answer, answered, blocked, end_answer, end_of_time, from_bench, passed, settle, tick_answer, tick_events, unless_blocked, when_loaded}
-use Rattle.machine.specs.declared.entry.Answer.{Answer}
 use Rattle.machine.specs.declared.entry.Answer.TheVariants.{Ticked, Done, Refused}
 use Rattle.machine.specs.declared.entry.Call.{Call}
 use Rattle.machine.specs.declared.entry.Call.TheVariants.{Tick}
 use Rattle.machine.specs.declared.event.Event.{Event}
-use Rattle.machine.specs.declared.event.Event.TheVariants.{Switch}
 use Rattle.machine.proofs.Basics.{read_back}
 use Rattle.control.specs.Calls.{EventsAfter, Steps, counted}
 use Rattle.control.specs.States.{state_of}

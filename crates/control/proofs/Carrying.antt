@@ -1,10 +1,9 @@
 -- A tick's events, carried out one controller after the other.
-use Rattle.std.proofs.Common.{◌≡◌, ℕ, zero, suc, ◌+◌, ◌<◌, ◌≤◌, Bool, true, false, cond, ◌&&◌, ltb, leb, ◌≢◌, ◌⊎◌, List, [], ◌∷◌, ◌++◌, length, get_or, set, is_some, Some, None, Ok, Err, Option, Result, sym, refl, ap, ◌∙◌, ap₂, inl, inr, add-one, arith}
+use Rattle.std.proofs.Common.{◌≡◌, ℕ, zero, suc, ◌+◌, ◌<◌, ◌≤◌, Bool, true, false, cond, ◌&&◌, ltb, leb, ◌≢◌, ◌⊎◌, List, [], ◌∷◌, ◌++◌, length, get_or, is_some, Some, None, Ok, Err, Option, refl, ap, ◌∙◌, ap₂, inl, inr, add-one, arith}
 use Rattle.std.proofs.lemmas.List.{length-append, length-set, get_or-set_same, get_or-set_other}
 use Rattle.std.proofs.lemmas.Bool.{both_ways, cases_eq}
-use Rattle.tasks.specs.declared.fault.BenchFault.{BenchFault}
 use Rattle.tasks.specs.declared.fault.BenchFault.TheVariants.{NoController, NoRow, Busy, Idle}
-use Rattle.benches.specs.Commands.{States, by_state, end_answer, start_answer}
+use Rattle.benches.specs.Commands.{by_state}
 use Rattle.machine.specs.Below.{each_below}
 use Rattle.machine.specs.Machine.{State, act, acts, cut_event, job_of, start_event}
 use Rattle.machine.specs.declared.event.Event.{Event}

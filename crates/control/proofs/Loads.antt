@@ -1,5 +1,5 @@
 -- How a load is answered, and what it leaves.
-use Rattle.std.proofs.Common.{◌≡◌, ℕ, Bool, true, false, cond, eqb, List, length, replicate, Ok, Err, Result, sym, refl, ap, ◌∙◌}
+use Rattle.std.proofs.Common.{◌≡◌, ℕ, Bool, cond, eqb, List, length, replicate, Ok, Err, Result, sym, refl, ap, ◌∙◌}
 use Rattle.std.proofs.lemmas.Bool.{cond-true, cond-false, eq-eqb, ne_eqb}
 use Rattle.tasks.specs.declared.fault.ControlFault.{ControlFault}
 use Rattle.tasks.specs.declared.fault.ControlFault.TheVariants.{Busy, Counts, Loaded}

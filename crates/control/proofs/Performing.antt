@@ -1,10 +1,10 @@
 -- What a tick decided can be carried out, and is what the machine does.
-use Rattle.std.proofs.Common.{◌≡◌, ℕ, ◌+◌, ◌-◌, ◌<◌, ◌≤◌, Bool, true, false, List, ◌++◌, length, get_or, Some, None, Ok, Option, sym, refl, ap, ◌∙◌, subst, ap₂, arith}
+use Rattle.std.proofs.Common.{◌≡◌, ℕ, ◌-◌, ◌<◌, ◌≤◌, Bool, true, false, List, ◌++◌, length, get_or, Some, None, Ok, sym, refl, ap, ◌∙◌, ap₂, arith}
 use Rattle.std.specs.List.{slice_get}
 use Rattle.benches.specs.Commands.{States, end_answer, start_answer}
 use Rattle.benches.proofs.Commands.{end_done, start_done}
 use Rattle.machine.specs.Below.{each_below, first_below}
-use Rattle.machine.specs.Machine.{State, acts, blocked, cut_event, cut_on, due_at, due_on, job, mode_then, opening_then, start_event, switch_event, switches, tick_events}
+use Rattle.machine.specs.Machine.{State, acts, blocked, cut_event, cut_on, due_at, due_on, job, mode_then, opening_then, start_event, switch_event, tick_events}
 use Rattle.machine.specs.declared.event.Event.{Event}
 use Rattle.machine.proofs.Basics.{first_none, first_some}
 use Rattle.control.specs.Turns.{Decided, deed_events, event_if}

@@ -1,6 +1,6 @@
 -- How a return and the question how things stand are answered.
-use Rattle.std.proofs.Common.{◌≡◌, ℕ, Bool, true, false, cond, eqb, length, is_some, Ok, Err, Option, Result, sym, refl, ap, ◌∙◌}
-use Rattle.std.proofs.lemmas.Bool.{cond-true, cond-false}
+use Rattle.std.proofs.Common.{◌≡◌, ℕ, Bool, false, cond, eqb, length, is_some, Ok, Err, Option, Result, sym, refl, ap, ◌∙◌}
+use Rattle.std.proofs.lemmas.Bool.{cond-false}
 use Rattle.tasks.specs.Modes.{number}
 use Rattle.tasks.specs.declared.fault.ControlFault.{ControlFault}
 use Rattle.tasks.specs.declared.fault.ControlFault.TheVariants.{Busy, Everyday}

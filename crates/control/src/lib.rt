@@ -1,4 +1,6 @@
 // The control: it runs a plan on any bench, tick by tick.
+#![tactic(auto)]
+
 mod carry;
 mod commands;
 mod control;

@@ -1,5 +1,5 @@
 -- Over the numbers 0, 1, .., n - 1, in rising order.
-use Rattle.std.specs.Prelude.{ℕ, zero, suc, ◌+◌, Bool, true, false, cond, List, [], ◌∷◌, ◌++◌, Some, None, Option}
+use Rattle.std.specs.Prelude.{ℕ, zero, suc, ◌+◌, Bool, cond, List, [], ◌++◌, Some, None, Option}
 
 abbrev pub or_else : Option ℕ → Option ℕ → Option ℕ
 or_else None y = y

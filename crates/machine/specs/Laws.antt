@@ -1,5 +1,5 @@
 -- The laws over a history, for a plan of these rows on a bench of m controllers.
-use Rattle.std.specs.Prelude.{◌≡◌, ℕ, zero, suc, ◌+◌, ◌*◌, ◌^◌, ◌<◌, ◌≤◌, Bool, true, false, cond, ◌⊎◌, ◌↔◌, List, [], ◌∷◌, ◌++◌, length, is_some, Some, None, Option, ◌≢◌, slice_index_or}
+use Rattle.std.specs.Prelude.{◌≡◌, ℕ, ◌+◌, ◌*◌, ◌^◌, ◌<◌, ◌≤◌, ◌⊎◌, ◌↔◌, List, ◌∷◌, ◌++◌, length, is_some, Some, None, Option, ◌≢◌, slice_index_or}
 use Rattle.planner.specs.declared.row.Row.{Row as PlanRow}
 use Rattle.machine.specs.declared.entry.Counts.{Counts}
 use Rattle.machine.specs.declared.entry.Standing.{Standing}
@@ -16,9 +16,8 @@ use Rattle.std.specs.List.{slice_get}
 use Rattle.machine.specs.declared.event.Written.{Written}
 use Rattle.machine.specs.declared.entry.Answer.{Answer}
 use Rattle.machine.specs.declared.entry.Answer.TheVariants.{Ticked, Done, Shown, Counted, Stood, Refused}
-use Rattle.machine.specs.declared.entry.Entry.{Entry}
 use Rattle.machine.specs.Entries.{Job, written, events_of, refuse, mode_of, entry}
-use Rattle.machine.specs.History.{History, Told, told, tell, tell_events, times}
+use Rattle.machine.specs.History.{History, Told, told, tell_events, times}
 
 -- P holds of each call with its answer, and of what the history before it tells
 abbrev pub AtEachCall : History → (Told → Call → Answer → Type 0) → Type 0

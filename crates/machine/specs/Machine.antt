@@ -1,6 +1,6 @@
 -- The machine: what each call answers and what it leaves, on every state. First the decision, then the deed: a tick decides
 -- its events, and the state after is the state on which those events were carried out. A refusal changes nothing.
-use Rattle.std.specs.Prelude.{ℕ, zero, suc, ◌+◌, ◌-◌, ◌*◌, ◌%◌, ◌^◌, min, Bool, true, false, cond, ◌&&◌, ◌||◌, List, [], ◌∷◌, ◌++◌, length, replicate, is_some, Some, None, Ok, Err, Option, Result, ◌==◌, nat_le, nat_lt, slice_index, slice_index_or, slice_set}
+use Rattle.std.specs.Prelude.{ℕ, ◌+◌, ◌-◌, ◌*◌, ◌%◌, ◌^◌, min, Bool, true, false, cond, ◌&&◌, ◌||◌, List, [], ◌∷◌, ◌++◌, length, replicate, is_some, Some, None, Ok, Err, Option, Result, ◌==◌, nat_le, nat_lt, slice_index, slice_index_or, slice_set}
 use Rattle.std.specs.List.{slice_get}
 use Rattle.tasks.specs.Refusals.{control_refusal}
 use Rattle.tasks.specs.Tasks.{budget}
@@ -20,7 +20,6 @@ use Rattle.machine.specs.declared.entry.Call.{Call}
 use Rattle.machine.specs.declared.entry.Call.TheVariants.{Tick, Report, Strike, Return, Controller, Row, Status}
 use Rattle.machine.specs.declared.event.Event.{Event}
 use Rattle.machine.specs.declared.event.Event.TheVariants.{Switch, Cut, Start}
-use Rattle.machine.specs.declared.event.Written.{Written}
 use Rattle.machine.specs.Below.{first_below, count_below, each_below}
 use Rattle.machine.specs.Entries.{Job, written, events_of, mode_of, entry}
 

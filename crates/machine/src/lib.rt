@@ -1,4 +1,6 @@
 // The machine that a control is: calls and answers, and the laws that every run of it keeps.
+#![tactic(auto)]
+
 mod entry;
 mod event;
 mod theorems;

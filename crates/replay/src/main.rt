@@ -1,5 +1,7 @@
 // Plans a task sheet, runs the plan on a bench, and sends it the calls of standard input, one a line:
 // `replay SHEET [--policy front|round|ends] [--bench slate|register]`.
+#![tactic(auto)]
+
 mod options;
 mod play;
 mod report;

@@ -1,4 +1,5 @@
 // The calls of a script, one a line.
+use anyhow::anyhow;
 use machine::Call;
 use std::alloc::{AllocError, Global};
 
@@ -38,8 +39,7 @@ pub(crate) fn read(rt: &HostRuntime) -> anyhow::Result<Vec<Call>> {
         let text = line?;
         let Some(call) = call(text.as_str()) else {
             let number = calls.len();
-            let told = format!(in heap; "line {number} is no call: {text}")?;
-            return Err(told.into());
+            return Err(anyhow!("line {number} is no call: {text}"));
         };
         calls.push(call)?;
     }

@@ -1,5 +1,5 @@
 -- A load, and calls sent one after the other.
-use Rattle.std.proofs.Common.{◌≡◌, ℕ, ◌+◌, ◌-◌, ◌<◌, ◌≤◌, min, List, [], ◌∷◌, ◌++◌, length, get_or, take, drop, set, IsErrAnd, Ok, Err, Result, sym, refl, ap, ◌∙◌, subst, ap₂, subst₂, ⊎_elim, arith, take_all}
+use Rattle.std.proofs.Common.{◌≡◌, ℕ, ◌+◌, ◌<◌, ◌≤◌, min, List, [], ◌∷◌, ◌++◌, length, get_or, take, drop, set, IsErrAnd, Ok, Err, Result, sym, refl, ap, ◌∙◌, subst, ap₂, subst₂, ⊎_elim, arith, take_all}
 use Rattle.std.proofs.lemmas.List.{drop_all, drop-drop, drop-set-lt, length-take, take_more_set}
 use Rattle.std.proofs.lemmas.Result.{err_from_is_err_and}
 use Rattle.std.proofs.lemmas.Bool.{cases_lt}
@@ -15,16 +15,15 @@ use Rattle.machine.proofs.Runs.{every_run_keeps_the_laws}
 use Rattle.machine.proofs.Sending.{end_more, run_more}
 use Rattle.machine.proofs.Unique.{laws_leave_nothing_open}
 use Rattle.machine.specs.Entries.{entry}
-use Rattle.machine.specs.History.{History, calls_of}
 use Rattle.machine.specs.Laws.{Laws}
-use Rattle.machine.specs.Machine.{State, after, answer, at_end, by_result, fresh, load_after, load_answer, loaded, run as run_of}
+use Rattle.machine.specs.Machine.{State, after, answer, at_end, by_result, fresh, load_answer, loaded, run as run_of}
 use Rattle.machine.specs.declared.entry.Answer.{Answer}
 use Rattle.machine.specs.declared.entry.Call.{Call}
 use Rattle.machine.specs.declared.entry.Entry.{Entry}
 use Rattle.control.specs.Calls.{Loads, Steps}
 use Rattle.control.specs.States.{state_of}
 use Rattle.control.specs.declared.control.Control.{Control}
-use Rattle.runs.specs.Runs.{Ran, RunAfter, Untouched, after_load, sent}
+use Rattle.runs.specs.Runs.{Ran, RunAfter, after_load, sent}
 
 -- ---- as many as there are
 

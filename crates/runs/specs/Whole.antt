@@ -1,6 +1,5 @@
 -- The whole way: what planning answered, and what came of the run.
 use Rattle.std.specs.Prelude.{◌≡◌, ℕ, List, length, Ok, Err, Result}
-use Rattle.tasks.specs.declared.fault.ControlFault.{ControlFault}
 use Rattle.tasks.specs.declared.fault.PlanFault.{PlanFault}
 use Rattle.tasks.specs.declared.fault.RunFault.{RunFault}
 use Rattle.tasks.specs.declared.fault.RunFault.TheVariants.{Plan as Planning, Control as Controlling}

@@ -1,5 +1,7 @@
 // Runs: a plan loaded on a control and a list of calls sent to it, each written down with its answer; and the whole way, from
 // tasks over their plan to such a run.
+#![tactic(auto)]
+
 mod answers;
 mod running;
 mod sending;

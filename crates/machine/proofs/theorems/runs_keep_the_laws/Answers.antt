@@ -1,6 +1,4 @@
 use Rattle.machine.proofs.Runs.{every_run_keeps_the_laws}
-use Rattle.machine.proofs.Loading
-use Rattle.machine.proofs.Sending
 use Rattle.machine.proofs.theorems.runs_keep_the_laws.Goals as goal
 
 pub returns : goal.returns

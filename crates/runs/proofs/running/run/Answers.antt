@@ -5,17 +5,17 @@ use Rattle.machine.specs.declared.entry.Call.TheVariants.{Tick}
 use Rattle.runs.proofs.Runs.{all_sent, begun, one_more, refused}
 use Rattle.runs.proofs.running.run.Goals as goal
 
-pub returns-in-err-load : goal.returns-in-err-load
-returns-in-err-load g c =
-    let told = c.in-err-load.ensures in
+pub returns-in_err-load : goal.returns-in_err-load
+returns-in_err-load g c =
+    let told = c.in_err-load.ensures in
     let (answer, ran) = refused g.B.Bench.meaning g.B.Bench.fixed c.args.plan.now c.args.calls.now c.args.control.now c.load.new.self c.args.journal.now
-    c.in-err-load.field-0.0 c.from-residual.result c.from-residual.ensures.1 told.answer told.loads in
+    c.in_err-load.field-0.0 c.from_residual.result c.from_residual.ensures.1 told.answer told.loads in
     record { answer = answer; ran = ran }
 
 pub loop-i-init : goal.loop-i-init
 loop-i-init g c =
-    let told = c.in-ok-load.ensures in
-    let (state, kept) = begun g.B.Bench.meaning c.args.plan.now c.args.control.now c.load.new.self c.in-ok-load.field-0 told.answer told.loads in
+    let told = c.in_ok-load.ensures in
+    let (state, kept) = begun g.B.Bench.meaning c.args.plan.now c.args.control.now c.load.new.self c.in_ok-load.field-0 told.answer told.loads in
     (state, kept, refl, refl, refl)
 
 pub loop-i-preserved : goal.loop-i-preserved
@@ -31,9 +31,9 @@ loop-i-preserved g c =
 pub returns : goal.returns
 returns g c =
     let inv = c.loop-i.invariant in
-    let told = c.in-ok-load.ensures in
+    let told = c.in_ok-load.ensures in
     let all : c.loop-i.i ≡ c.min-count.result = omega arith in
     let (answer, ran) = all_sent g.B.Bench.meaning g.B.Bench.fixed c.args.plan.now c.args.calls.now c.args.control.now c.load.new.self c.loop-i.control
-    c.args.journal.now c.loop-i.journal c.loop-i.i c.in-ok-load.field-0 told.answer (all ∙ c.min-count.ensures) c.loop-i.auto.journal
+    c.args.journal.now c.loop-i.journal c.loop-i.i c.in_ok-load.field-0 told.answer (all ∙ c.min-count.ensures) c.loop-i.auto.journal
     inv.0 inv.1 inv.2 told.loads.bench inv.3 inv.4 in
     record { answer = ap Ok (sym all) ∙ answer; ran = ran }

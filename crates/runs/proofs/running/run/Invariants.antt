@@ -1,4 +1,4 @@
-use Rattle.std.proofs.Common.{◌≡◌, length, take, drop}
+use Rattle.std.proofs.Common.{◌≡◌, take, drop}
 use Rattle.planner.specs.Plans.{rows_of}
 use Rattle.machine.specs.Machine.{at_end, loaded, run as run_of}
 use Rattle.control.specs.States.{state_of}

@@ -1,15 +1,15 @@
-use Rattle.std.proofs.Common.{sym, ap, ◌∙◌, arith}
+use Rattle.std.proofs.Common.{ap, ◌∙◌, arith}
 use Rattle.machine.specs.declared.entry.Answer.TheVariants.{Refused}
 use Rattle.control.specs.States.{state_of}
 use Rattle.runs.proofs.Ticking.{left, small, ticked, unticked}
 use Rattle.runs.proofs.sending.tick.Goals as goal
 
-pub overflow-cast-result : goal.overflow-cast-result
-overflow-cast-result g c =
+pub overflow_cast-result : goal.overflow_cast-result
+overflow_cast-result g c =
     let a = c.args.control.now in
     let few = g.B.Bench.few a.bench in
     let told = c.in-Ok.ensures in
-    omega (arith, small (state_of g.B.Bench.meaning a) few c.args.places c.min-lent.result c.min-lent.ensures c.in-Ok.count told.answer c.tick-into.new.events told.written c.tick-into.auto.events)
+    omega (arith, small (state_of g.B.Bench.meaning a) few c.args.places c.min-lent.result c.min-lent.ensures c.in-Ok.count told.answer c.tick_into.new.events told.written c.tick_into.auto.events)
 
 pub returns-in-Ok : goal.returns-in-Ok
 returns-in-Ok g c =
@@ -18,7 +18,7 @@ returns-in-Ok g c =
     let few = g.B.Bench.few a.bench in
     let told = c.in-Ok.ensures in
     record {
-      answer = ticked s few c.args.places c.min-lent.result c.min-lent.ensures c.in-Ok.count told.answer c.tick-into.new.events told.written c.tick-into.auto.events;
+      answer = ticked s few c.args.places c.min-lent.result c.min-lent.ensures c.in-Ok.count told.answer c.tick_into.new.events told.written c.tick_into.auto.events;
       steps = record {
         state = told.steps.state ∙ left s few c.args.places c.min-lent.result c.min-lent.ensures;
         plan = told.steps.plan;

@@ -5,16 +5,16 @@ use Rattle.control.specs.States.{state_of}
 use Rattle.control.proofs.Firsts.{first_here, none_more}
 use Rattle.control.proofs.control.Control.blocked.Goals as goal
 
-pub returns-then-is-blocked : goal.returns-then-is-blocked
-returns-then-is-blocked g c =
+pub returns-then-is_blocked : goal.returns-then-is_blocked
+returns-then-is_blocked g c =
     let s = state_of g.B.Bench.meaning c.args.self.now in
-    let here = sym c.is-blocked.ensures.value ∙ c.if-is-blocked.true in
+    let here = sym c.is_blocked.ensures.value ∙ c.if-is_blocked.true in
     record { value = sym (first_here (length s.shows) c.loop-c.c (blocked s) (omega arith) c.loop-c.invariant here) }
 
 pub loop-c-preserved : goal.loop-c-preserved
 loop-c-preserved g c =
     let s = state_of g.B.Bench.meaning c.args.self.now in
-    none_more c.loop-c.c (blocked s) c.loop-c.invariant (sym c.is-blocked.ensures.value ∙ c.if-is-blocked.false)
+    none_more c.loop-c.c (blocked s) c.loop-c.invariant (sym c.is_blocked.ensures.value ∙ c.if-is_blocked.false)
 
 pub returns : goal.returns
 returns g c =

@@ -1,12 +1,12 @@
-use Rattle.std.proofs.Common.{◌≡◌, ℕ, ◌+◌, ◌≤◌, List, [], ◌∷◌, ◌++◌, length, get_or, Some, None, Option, sym, ap, ◌∙◌, subst, arith}
-use Rattle.machine.specs.Machine.{State, acts}
+use Rattle.std.proofs.Common.{◌≡◌, ℕ, [], ◌∷◌, length, get_or, None, sym, ap, ◌∙◌, subst, arith}
+use Rattle.machine.specs.Machine.{State}
 use Rattle.machine.specs.declared.event.Event.{Event}
 use Rattle.control.specs.States.{state_of}
-use Rattle.control.specs.Turns.{Able, Did, deed_events, event_if, event_of}
+use Rattle.control.specs.Turns.{Able, Did, deed_events, event_if}
 use Rattle.control.proofs.Carrying.{able_along, deed_length, deed_more, shows_above, shows_length}
 use Rattle.control.proofs.Writing.{did_append, did_none, did_to}
 use Rattle.control.proofs.control.Control.carry_out.Goals as goal
-use Rattle.control.proofs.control.Control.carry_out.Goals.{in-Some, in-default}
+use Rattle.control.proofs.control.Control.carry_out.Goals.{in-Some, in_default}
 
 pub note-requires : goal.note-requires
 note-requires g c =
@@ -33,8 +33,8 @@ loop-c-preserved g c =
     elim c.match-held.branch [
       | in-Some w ↦ did_to g.B.Bench.meaning g.B.Bench.fixed _ _ _ _ _ _ _ (event_if deed i (get_or rows i None)) w.self-is w.events-is
           (ap (event_if deed i) w.in-Some.is ∙ ap (λ (e : Event). e ∷ []) (sym w.event.ensures.value)) w.note.ensures.did
-      | in-default w ↦ did_to g.B.Bench.meaning g.B.Bench.fixed _ _ _ _ _ _ _ (event_if deed i (get_or rows i None)) w.self-is w.events-is
-          (ap (event_if deed i) w.in-default.is) (did_none g.B.Bench.meaning g.B.Bench.fixed c.loop-c.self c.loop-c.events)
+      | in_default w ↦ did_to g.B.Bench.meaning g.B.Bench.fixed _ _ _ _ _ _ _ (event_if deed i (get_or rows i None)) w.self-is w.events-is
+          (ap (event_if deed i) w.in_default.is) (did_none g.B.Bench.meaning g.B.Bench.fixed c.loop-c.self c.loop-c.events)
     ] in (
       subst (Did g.B.Bench.meaning g.B.Bench.fixed c.args.self.now c.match-held.self c.args.events.now c.match-held.events) (sym (deed_more deed i rows))
           (did_append g.B.Bench.meaning g.B.Bench.fixed c.args.self.now c.loop-c.self c.match-held.self c.args.events.now c.loop-c.events c.match-held.events

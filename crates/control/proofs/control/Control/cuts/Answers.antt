@@ -8,4 +8,4 @@ pub loop-c-preserved : goal.loop-c-preserved
 loop-c-preserved g c =
     let s = state_of g.B.Bench.meaning c.args.self.now in
     let few = g.B.Bench.few c.args.self.now.bench in
-    table_more c.loop-c.rows c.loop-c.c (cut_row c.args.switching s) c.cut-row.result c.loop-c.invariant.0 (omega arith) c.loop-c.invariant.1 c.cut-row.ensures.value
+    table_more c.loop-c.rows c.loop-c.c (cut_row c.args.switching s) c.cut_row.result c.loop-c.invariant.0 (omega arith) c.loop-c.invariant.1 c.cut_row.ensures.value

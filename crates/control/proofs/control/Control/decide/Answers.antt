@@ -1,4 +1,4 @@
-use Rattle.std.proofs.Common.{◌≡◌, ℕ, ◌-◌, Option, sym, ap, ◌∙◌, ap₂}
+use Rattle.std.proofs.Common.{◌≡◌, ℕ, ◌-◌, sym, ap, ◌∙◌, ap₂}
 use Rattle.tasks.specs.Modes.{number}
 use Rattle.machine.specs.Machine.{due_in, mode_then, opening_then, switches}
 use Rattle.control.specs.States.{state_of}
@@ -14,10 +14,10 @@ returns g c =
     let is = c.switches-switches.ensures.value in
     let force = c.if-switches.mode in
     let then : (number force.0 ≡ mode_then s) × (force.1 ≡ opening_then s) = elim c.if-switches.branch [
-      | then-switches w ↦ switched (switches s) force control.mode control.next control.opening (sym is ∙ w.if-switches.true) w.mode_is
-      | else-switches w ↦ unswitched (switches s) force control.mode control.next control.opening (sym is ∙ w.if-switches.false) w.mode_is
+      | then-switches w ↦ switched (switches s) force control.mode control.next control.opening (sym is ∙ w.if-switches.true) w.mode-is
+      | else-switches w ↦ unswitched (switches s) force control.mode control.next control.opening (sym is ∙ w.if-switches.false) w.mode-is
     ] in
-    let elapsed = c.saturating-sub.ensures ∙ ap (λ (o : ℕ). control.next - o) then.1 in
+    let elapsed = c.saturating_sub.ensures ∙ ap (λ (o : ℕ). control.next - o) then.1 in
     record {
       decided = record {
         switching = is;

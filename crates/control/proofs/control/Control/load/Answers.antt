@@ -28,11 +28,11 @@ returns-then-m-count g c =
     (λ z. c.if-m-count.true (c.controllers-m.ensures.value ∙ z ∙ sym c.count.ensures.value)) in
     record { answer = sym e; loads = unloaded g.B.Bench.meaning a a c.args.plan.now Counts e }
 
-pub returns-then-is-some : goal.returns-then-is-some
-returns-then-is-some g c =
+pub returns-then-is_some : goal.returns-then-is_some
+returns-then-is_some g c =
     let a = c.args.self.now in
     let s = state_of g.B.Bench.meaning a in
-    let busy : some_busy s ≡ true = ap is_some (sym (lowest_is s.shows)) ∙ ap is_some (sym c.lowest-busy.ensures.value) ∙ sym c.is-some.ensures ∙ c.if-is-some.true in
+    let busy : some_busy s ≡ true = ap is_some (sym (lowest_is s.shows)) ∙ ap is_some (sym c.lowest_busy.ensures.value) ∙ sym c.is_some.ensures ∙ c.if-is_some.true in
     let e = load_by s c.args.plan.now.controllers (sym c.controllers.ensures.value ∙ c.if-controllers-ne0.false)
     (λ z. c.if-m-eq0.false (c.controllers-m.ensures.value ∙ z)) (sym c.controllers-m.ensures.value ∙ c.if-m-count.false ∙ c.count.ensures.value) true busy in
     record { answer = sym e; loads = unloaded g.B.Bench.meaning a a c.args.plan.now Busy e }
@@ -41,7 +41,7 @@ pub returns : goal.returns
 returns g c =
     let a = c.args.self.now in
     let s = state_of g.B.Bench.meaning a in
-    let idle : some_busy s ≡ false = ap is_some (sym (lowest_is s.shows)) ∙ ap is_some (sym c.lowest-busy.ensures.value) ∙ sym c.is-some.ensures ∙ c.if-is-some.false in
+    let idle : some_busy s ≡ false = ap is_some (sym (lowest_is s.shows)) ∙ ap is_some (sym c.lowest_busy.ensures.value) ∙ sym c.is_some.ensures ∙ c.if-is_some.false in
     let e = load_by s c.args.plan.now.controllers (sym c.controllers.ensures.value ∙ c.if-controllers-ne0.false)
     (λ z. c.if-m-eq0.false (c.controllers-m.ensures.value ∙ z)) (sym c.controllers-m.ensures.value ∙ c.if-m-count.false ∙ c.count.ensures.value) false idle in
     let begun = freshened c.args.plan.now.controllers (rows_of c.args.plan.now) s.shows c.new-self.ensures.all c.new-self-2.ensures.all in
