@@ -2,11 +2,11 @@
 #![tactic(auto)]
 
 ghost use Rattle.std.specs.Prelude.{◌≡◌, ℕ, ◌<◌, ◌↔◌, Some, slice_index};
-ghost use Rattle.digits.specs.Digits.{byte_of, chart, digit as digitOf, is_digit, printed, two_digits};
+ghost use Rattle.digits.specs.Digits.{byte_of, chart, digit as digit_of, is_digit, printed, two_digits};
 
 // The value of a byte that is a digit; none for any other byte.
 pub fn digit(b: u8) -> Option<u8>
-    ensures value { result ≡ digitOf b }
+    ensures value { result ≡ digit_of b }
     ensures charted { (v : ℕ) → (result ≡ Some v) ↔ ((v < 16) × (slice_index chart v ≡ b)) }
 {
     match b {

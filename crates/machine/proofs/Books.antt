@@ -117,10 +117,10 @@ valid_start m rows h (x ∷ first) rest c r v = valid_start m rows (tell_event h
 -- ---- one table changed at one place
 
 -- Counts with the same parts are the same.
-Counts-same
+counts_same
     : {a b c d e f : ℕ} → a ≡ d → b ≡ e → c ≡ f
     → ◌≡◌ {A = Counts} (record { starts = a; reports = b; cuts = c }) (record { starts = d; reports = e; cuts = f })
-Counts-same p q r = λ i. record { starts = p i; reports = q i; cuts = r i }
+counts_same p q r = λ i. record { starts = p i; reports = q i; cuts = r i }
 
 -- The jobs where c is given one.
 job_put
@@ -330,7 +330,7 @@ module _ {m : ℕ} {rows : List PlanRow} {s : State} {h : Told} (b : Booked m ro
       below = let p = b.own c j is in row_below rows j.row p.row p.at
 
       other : (q : ℕ) → (q ≡ j.row → ⊥) → new q ≡ counts_of h q
-      other q n = let (x, y, z) = there q n in Counts-same refl x (omega arith)
+      other q n = let (x, y, z) = there q n in counts_same refl x (omega arith)
 
       elsewhere : (q : ℕ) → (q ≡ j.row → ⊥) → R q + K q + C q ≡ ends h q
       elsewhere q n = let (x, y, z) = there q n in omega arith
@@ -350,7 +350,7 @@ module _ {m : ℕ} {rows : List PlanRow} {s : State} {h : Told} (b : Booked m ro
       let x : one_more j.row h.cuts j.row ≡ h.cuts j.row + 1 =
       put_same j.row (h.cuts j.row + 1) h.cuts j.row refl in
       book_end c j l is with_cut h.reports h.strikes (one_more j.row h.cuts)
-      (Counts-same refl refl (omega (arith, room c j is)))
+      (counts_same refl refl (omega (arith, room c j is)))
       (λ q n. (refl, refl, put_other j.row (h.cuts j.row + 1) h.cuts q n))
       (omega arith)
 
@@ -373,8 +373,8 @@ module _ {m : ℕ} {rows : List PlanRow} {s : State} {h : Told} (b : Booked m ro
         ∙ ap (λ (t : ℕ). put c (Some (record { row = r; since = t })) h.running d) b.next;
     tallies =
         tally_put s.counts r with_start (length rows) (counts_of h) new b.counts (row_below rows r place.row place.at)
-        b.tallies (Counts-same (omega (arith, plus)) refl refl)
-        (λ q n. Counts-same (put_other r (h.starts r + 1) h.starts q n) refl refl);
+        b.tallies (counts_same (omega (arith, plus)) refl refl)
+        (λ q n. counts_same (put_other r (h.starts r + 1) h.starts q n) refl refl);
     own = own_put rows h.running b.own c r h.ticks place;
     account =
         account_start rows h.running b.own h.starts (ends h) b.account (one_more r h.starts) c r h.ticks idle
@@ -478,7 +478,7 @@ module _ {m : ℕ} {rows : List PlanRow} {s : State} {h : Told} (b : Booked m ro
       (told_dropped h c (one_more_for w h.reports) h.strikes h.cuts))
       (sym e) (sym is)
       (book_end c j l is with_report (one_more r h.reports) h.strikes h.cuts
-      (Counts-same refl (omega (arith, room c j is)) refl)
+      (counts_same refl (omega (arith, room c j is)) refl)
       (λ q n. (put_other r (h.reports r + 1) h.reports q n, refl, refl)) (omega arith))
 
   -- A strike.
@@ -493,7 +493,7 @@ module _ {m : ℕ} {rows : List PlanRow} {s : State} {h : Told} (b : Booked m ro
       (told_dropped h c h.reports (one_more_for w h.strikes) h.cuts))
       (sym e) (sym is)
       (book_end c j l is with_cut h.reports (one_more r h.strikes) h.cuts
-      (Counts-same refl refl (omega (arith, room c j is)))
+      (counts_same refl refl (omega (arith, room c j is)))
       (λ q n. (refl, put_other r (h.strikes r + 1) h.strikes q n, refl)) (omega arith))
 
 -- The books after the events of a tick.

@@ -432,11 +432,11 @@ module _ {m : ℕ} {rows : List PlanRow} (one : 1 ≤ m) (st : Stands m rows) {s
           (accepted e (omega (arith, ltb-false places (2 * length s.shows + 1) k, b.shows)))
 
   -- A report or a strike: the bench tells whether it is taken.
-  End-step
+  end_step
       : (call : Call) (c : ℕ) → asks call ≡ 0 → ((2 ≤ tells call) × (tells call ≤ 3)) → ended_on call ≡ c
       → ((r : ℕ) → c < m → get_or s.shows c None ≡ Some r → Agrees m rows (settle s call Done) (tell h call Done))
       → Stepped m rows s h call (answered (λ _. Done) (when_loaded s (from_bench (bench_end s.shows c))))
-  End-step call c ask kind on taken =
+  end_step call c ask kind on taken =
       when_loaded_is call (λ _. Done) (from_bench (bench_end s.shows c))
       (go (ltb c (length s.shows)) refl (get_or s.shows c None) refl)
     where
@@ -464,7 +464,7 @@ module _ {m : ℕ} {rows : List PlanRow} (one : 1 ≤ m) (st : Stands m rows) {s
 
   step_report : (c : ℕ) → Stepped m rows s h (Report c) (answer s (Report c))
   step_report c =
-      End-step (Report c) c refl (omega arith, omega arith) refl
+      end_step (Report c) c refl (omega arith, omega arith) refl
       (λ r l e. record {
         booked = book_report ag.booked c r l e;
         timely = timely_ended ag c (one_more_for (h.running c) h.reports) h.strikes;
@@ -472,7 +472,7 @@ module _ {m : ℕ} {rows : List PlanRow} (one : 1 ≤ m) (st : Stands m rows) {s
 
   step_strike : (c : ℕ) → Stepped m rows s h (Strike c) (answer s (Strike c))
   step_strike c =
-      End-step (Strike c) c refl (omega arith, omega arith) refl
+      end_step (Strike c) c refl (omega arith, omega arith) refl
       (λ r l e. record {
         booked = book_strike ag.booked c r l e;
         timely = timely_ended ag c h.reports (one_more_for (h.running c) h.strikes);

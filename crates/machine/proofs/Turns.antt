@@ -26,10 +26,10 @@ turn_quoted row mode opening now l e =
     (x / t, omega (arith, div-add-mod' x t))
 
 -- Where the period stands so many instants after a quoted one, fewer than the rest of the period.
-after_turn_lem
+after_turn
     : (row : PlanRow) (mode opening since now : ℕ) → Quoted row mode opening since → since ≤ now
     → start row mode + (now - since) < row.task.period → (now - opening) % row.task.period ≡ start row mode + (now - since)
-after_turn_lem row mode opening since now (k, e) l small =
+after_turn row mode opening since now (k, e) l small =
     let t : ℕ = row.task.period in
     let x : now - opening ≡ start row mode + (now - since) + k * t = omega arith in
     ap (λ (y : ℕ). y % t) x ∙ add-mul-mod_self_right (start row mode + (now - since)) k t ∙ mod-eq_of_lt small
@@ -39,7 +39,7 @@ pub quoted_turn
     : (row : PlanRow) (mode opening now : ℕ) → start row mode < row.task.period → Quoted row mode opening now
     → Turn row mode (now - opening)
 quoted_turn row mode opening now small q =
-    after_turn_lem row mode opening now now q (omega arith) (omega arith) ∙ omega arith
+    after_turn row mode opening now now q (omega arith) (omega arith) ∙ omega arith
 
 -- ---- the machine's test
 
@@ -120,7 +120,7 @@ pub due_alone
     → (q since : ℕ) (p : Placed rows c q) → Timed p.row mode opening now since → now < since + budget p.row.task mode → ⊥
 due_alone {rows = rows} st mode opening now c r x q since p t unspent =
     let room = period_room p.row (st.sound q p.row p.at) mode t.belongs in
-    let at = after_turn_lem p.row mode opening since now t.quoted (omega (arith, t.past)) (omega (arith, room, t.past)) in
+    let at = after_turn p.row mode opening since now t.quoted (omega (arith, t.past)) (omega (arith, room, t.past)) in
     let w : Within rows mode (now - opening) c q =
     record { place = p; belongs = t.belongs; occupies = (omega (arith, at), omega (arith, at, t.past)) } in
     let e : r ≡ q = only_one st mode (now - opening) c r q (called_within st mode (now - opening) c r x) w in

@@ -81,13 +81,13 @@ module _ (m : ℕ) (h : Told) where
       (cases_Bool (same_event e y))
 
   -- Two lists in order with the same events are the same.
-  Ordered-same
+  ordered_same
       : (xs ys : List Event) → InOrder m h xs → InOrder m h ys → ((e : Event) → times e xs ≡ times e ys) → xs ≡ ys
-  Ordered-same [] [] o p f = refl
-  Ordered-same [] (y ∷ ys) o p f = absurd (omega (arith, f y, times_head y ys))
-  Ordered-same (x ∷ xs) [] o p f = absurd (omega (arith, f x, times_head x xs))
-  Ordered-same (x ∷ xs) (y ∷ ys) o p f =
-      ap₂ (λ (z : Event) (zs : List Event). z ∷ zs) head (Ordered-same xs ys (in_order_tail x xs o) (in_order_tail y ys p) rest)
+  ordered_same [] [] o p f = refl
+  ordered_same [] (y ∷ ys) o p f = absurd (omega (arith, f y, times_head y ys))
+  ordered_same (x ∷ xs) [] o p f = absurd (omega (arith, f x, times_head x xs))
+  ordered_same (x ∷ xs) (y ∷ ys) o p f =
+      ap₂ (λ (z : Event) (zs : List Event). z ∷ zs) head (ordered_same xs ys (in_order_tail x xs o) (in_order_tail y ys p) rest)
     where
       head : x ≡ y
       head =
@@ -247,7 +247,7 @@ module _ {m : ℕ} {rows : List PlanRow} {h : Told} where
       taken : (w v : Written) → a ≡ Ticked w → b ≡ Ticked v → a ≡ b
       taken w v p q =
           let es : events_of w ≡ events_of v =
-          Ordered-same m h (events_of w) (events_of v) (x.in_order w p) (y.in_order v q)
+          ordered_same m h (events_of w) (events_of v) (x.in_order w p) (y.in_order v q)
           (same_times rows h (events_of w) (events_of v) (x.overruns w p) (y.overruns v q) (x.on_time w p) (y.on_time v q)) in
           p ∙ ap Ticked (x.padded w p ∙ ap written es ∙ sym (y.padded v q)) ∙ sym q
 

@@ -19,11 +19,11 @@ use Rattle.planner.proofs.Places.{no_task, nth_inside, nth_push, nth_take}
 pub blank_rest : (n : ℕ) (table : List Row) → drop n table ≡ drop n (replicate 64 no_row) → table ≡ take n table ++ replicate (64 - n) no_row
 blank_rest n table e = sym (take-append-drop n table) ∙ ap (λ rest. take n table ++ rest) (e ∙ drop-replicate n 64 no_row)
 
-Told-push
+told_push
     : {P : Type 0} (rows : List Row) (means : Means P) (p : P) (row : Row)
     → told_of means p (rows ++ row ∷ []) ≡ means.told (told_of means p rows) row.task.level row.controller
-Told-push [] means p row = refl
-Told-push (r ∷ rows) means p row = Told-push rows means (means.told p r.task.level r.controller) row
+told_push [] means p row = refl
+told_push (r ∷ rows) means p row = told_push rows means (means.told p r.task.level r.controller) row
 
 -- telling of rows keeps the count
 pub count_kept
@@ -76,12 +76,12 @@ module _ {P : Type 0} (means : Means P) (p : P) where
           subst F (sym (take_at rows (row ∷ []) i (sym m))) (subst G e (subst K f as'))
 
   -- the task of a row that was placed
-  placed_at_lem
+  placed_at
       : (tasks : List Task) (rows : List Row) (i : ℕ) (row : Row)
       → Placed means p tasks rows
       → slice_get rows i ≡ Some row
       → (task : Task) × (slice_get tasks i ≡ Some task) × As (take i rows) task row
-  placed_at_lem tasks rows i row all e =
+  placed_at tasks rows i row all e =
       let l : i < length tasks = omega (arith, nth_inside rows i row e, all.long) in
       let at = slice_get-get_or tasks i no_task l in
       (get_or tasks i no_task, at, all.each i (get_or tasks i no_task) row at e)
@@ -92,7 +92,7 @@ module _ {P : Type 0} (means : Means P) (p : P) where
       let a = clash.a in
       let b = clash.b in
       let mode = clash.mode in
-      let (task, at, as') = placed_at_lem tasks rows clash.j b all clash.at_j in
+      let (task, at, as') = placed_at tasks rows clash.j b all clash.at_j in
       let F : Task → Type 0 = λ t. Belongs t mode → Meet (On (start b mode) (budget t mode) t.period) (Occupies a mode) → ⊥ in
       let free : F task = λ belongs meet.
       (as'.on.starts mode belongs).0.1 clash.i a (nth_take clash.j rows clash.i clash.before ∙ clash.at_i) (clash.together, clash.a_belongs, meet) in
@@ -101,12 +101,12 @@ module _ {P : Type 0} (means : Means P) (p : P) where
 
   pub placed_each_sound : (tasks : List Task) (rows : List Row) → EachInRange tasks → Placed means p tasks rows → EachSound rows
   placed_each_sound tasks rows range all i row e =
-      let (task, at, as') = placed_at_lem tasks rows i row all e in
+      let (task, at, as') = placed_at tasks rows i row all e in
       placed_sound row.controller (take i rows) task row (range i task at) as'.on
 
   pub placed_each_on : Lawful means → (tasks : List Task) (rows : List Row) → Placed means p tasks rows → EachOn (means.count p) rows
   placed_each_on law tasks rows all i row e =
-      let (task, at, as') = placed_at_lem tasks rows i row all e in
+      let (task, at, as') = placed_at tasks rows i row all e in
       let (k, name, takes, before) = as'.first in
       let l = (law.arranged (told_of means p (take i rows)) task.level).within k row.controller name in
       omega (arith, count_kept (take i rows) means law p)
@@ -133,7 +133,7 @@ module _ {P : Type 0} (means : Means P) (p : P) where
         after
             ∙ (ap (λ x. means.told x task.level row.controller) is
             ∙ (ap (λ t. means.told (told_of means p (take i table)) t.level row.controller) (sym as'.on.holds)
-            ∙ (sym (Told-push (take i table) means p row) ∙ ap (told_of means p) (sym grown)))),
+            ∙ (sym (told_push (take i table) means p row) ∙ ap (told_of means p) (sym grown)))),
       )
 
   -- the table is full
