@@ -38,7 +38,7 @@ pub(crate) fn read(rt: &HostRuntime) -> anyhow::Result<Vec<Call>> {
     for line in rt.lines(heap) {
         let text = line?;
         let Some(call) = call(text.as_str()) else {
-            let number = calls.len();
+            let number = calls.len() + 1;
             return Err(anyhow!("line {number} is no call: {text}"));
         };
         calls.push(call)?;
