@@ -47,10 +47,6 @@ impl Roster {
     pub(crate) fn place(&self, k: u8) -> Option<u8>
         ensures value { result ≡ slice_get (named self.now.count.value self.now.names) k }
     {
-        if k < self.count.value {
-            Some(self.names[k as usize])
-        } else {
-            None
-        }
+        (k < self.count.value).then(|| self.names[usize::from(k)])
     }
 }

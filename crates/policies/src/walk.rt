@@ -8,27 +8,19 @@ use crate::count::Count;
 pub(crate) fn up(count: Count, k: u8) -> Option<u8>
     ensures value { result ≡ slice_get (upward count.value) k }
 {
-    if k < count.value { Some(k) } else { None }
+    (k < count.value).then_some(k)
 }
 
 // The controller at place `k` from the last downward.
 pub(crate) fn down(count: Count, k: u8) -> Option<u8>
     ensures value { result ≡ slice_get (downward count.value) k }
 {
-    if k < count.value {
-        Some(count.value - 1 - k)
-    } else {
-        None
-    }
+    (k < count.value).then(|| count.value - 1 - k)
 }
 
 // The controller at place `k` round from this one.
 pub(crate) fn around(count: Count, first: u8, k: u8) -> Option<u8>
     ensures value { result ≡ slice_get (round_from first count.value) k }
 {
-    if k < count.value {
-        Some(((first as u16 + k as u16) % count.value as u16) as u8)
-    } else {
-        None
-    }
+    (k < count.value).then(|| ((u16::from(first) + u16::from(k)) % u16::from(count.value)) as u8)
 }
