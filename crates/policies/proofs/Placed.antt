@@ -1,5 +1,5 @@
 -- What a function finds at a place of an order, where it answers exactly at the places that there are.
-use Rattle.std.proofs.Common.{◌≡◌, ℕ, ◌<◌, Bool, true, false, nat_lt, Some, None, Option, is_some, sym, refl, arith}
+use Rattle.std.proofs.Common.{◌≡◌, ℕ, nat_lt, Some, None, Option, is_some, sym}
 use Rattle.std.specs.Prelude.{IfSome}
 use Rattle.std.specs.List.{slice_get}
 use Rattle.std.proofs.lemmas.Bool.{ltb-true, ltb-false}

@@ -31,13 +31,8 @@ impl Listed {
         ensures answer { elim result [ Ok _ ↦ Arrangement (listed_means.count self.old) list.now | Err fault ↦ (fault ≡ NotEachOnce) × (Arrangement (listed_means.count self.old) list.now → ⊥) ] }
         ensures after { elim result [ Ok _ ↦ Follows self.old self.new list.now | Err _ ↦ self.new ≡ self.old ] }
     {
-        match Roster::from_list(self.roster.count, list) {
-            Some(roster) => {
-                self.roster = roster;
-                Ok(())
-            }
-            None => Err(ListFault::NotEachOnce),
-        }
+        self.roster = Roster::from_list(self.roster.count, list)?;
+        Ok(())
     }
 }
 

@@ -5,15 +5,10 @@ ghost use Rattle.policies.specs.Names.{EachOnce};
 pub(crate) fn each_once(list: &[u8]) -> bool
     ensures once { T result ↔ EachOnce list.now }
 {
-    for (i, name) in list.iter().enumerate() {
-        if *name as usize >= list.len() {
-            return false;
-        }
-        if list[0..i].contains(name) {
-            return false;
-        }
-    }
-    true
+    list.iter().enumerate().all(|(place, name)| {
+        let before = &list[..place];
+        usize::from(*name) < list.len() && !before.contains(name)
+    })
 }
 
 // The list in the first places of eight.
@@ -22,8 +17,6 @@ pub(crate) fn padded(list: &[u8]) -> [u8; 8]
     ensures value { (k : ℕ) → k < length list.now → slice_index result k ≡ slice_index list.now k }
 {
     let mut names = [0; 8];
-    for (i, name) in list.iter().enumerate() {
-        names[i] = *name;
-    }
+    names[..list.len()].copy_from_slice(list);
     names
 }

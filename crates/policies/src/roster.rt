@@ -1,12 +1,14 @@
 ghost use Rattle.policies.specs.Names.{EachApart, EachBelow, named};
 ghost use Rattle.policies.specs.Orders.{Arrangement, upward};
-ghost use Rattle.std.specs.Prelude.{◌≡◌, Some, None};
+ghost use Rattle.std.specs.Prelude.{◌≡◌, Ok, Err};
 ghost use Rattle.std.specs.List.{slice_get};
+ghost use Rattle.tasks.specs.declared.fault.ListFault.TheVariants.{NotEachOnce};
 
 use crate::count::Count;
 use crate::names::{each_once, padded};
+use tasks::ListFault;
 
-// The controllers in an order of the shop's own. Only the first `count` names are in use.
+// The controllers in an order of the shop's own. Only the first `count` of eight names are in use: memory is fixed.
 #[derive(Drop)]
 pub(crate) struct Roster {
     pub(crate) count: Count,
@@ -28,16 +30,13 @@ impl Roster {
     }
 
     // The controllers as the list names them, if it names each exactly once.
-    pub(crate) fn from_list(count: Count, list: &[u8]) -> Option<Roster>
-        ensures value { elim result [ Some s ↦ Arrangement count.value list.now × (s.count.value ≡ count.value) × (named s.count.value s.names ≡ list.now) | None ↦ (Arrangement count.value list.now → ⊥) ] }
+    pub(crate) fn from_list(count: Count, list: &[u8]) -> Result<Roster, ListFault>
+        ensures value { elim result [ Ok s ↦ Arrangement count.value list.now × (s.count.value ≡ count.value) × (named s.count.value s.names ≡ list.now) | Err fault ↦ (fault ≡ NotEachOnce) × (Arrangement count.value list.now → ⊥) ] }
     {
-        if list.len() != count.value as usize {
-            return None;
+        if list.len() != usize::from(count.value) || !each_once(list) {
+            return Err(ListFault::NotEachOnce);
         }
-        if !each_once(list) {
-            return None;
-        }
-        Some(Roster {
+        Ok(Roster {
             count,
             names: padded(list),
         })

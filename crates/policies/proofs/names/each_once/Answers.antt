@@ -1,43 +1,62 @@
-use Rattle.std.proofs.Common.{◌≡◌, ℕ, ◌+◌, ◌-◌, ◌<◌, List, length, get_or, take, sym, ap, ◌∙◌, zero-le, arith, below_more}
-use native.Mathlib.Decide.{dec_lt}
-use Rattle.std.proofs.lemmas.List.{length-take, get_or-take}
-use Rattle.std.proofs.lemmas.Bool.{eqb-true, eqb-false}
-use Rattle.policies.specs.Names.{EachApart}
+use Rattle.std.proofs.Common.{◌≡◌, ℕ, ◌+◌, ◌<◌, Bool, true, false, not, ◌&&◌, ◌==◌, nat_lt, List, T, length, take, get_or, sym, ap, ◌∙◌, subst, rules, tests, arith}
+use Rattle.std.specs.List.{AllPass, list_all, list_any, enumerate_from}
+use Rattle.std.proofs.lemmas.Bool.{ltb-true, lt-ltb, eq-eqb, ne_eqb, and_parts, and_from, not-true, both_ways}
+use Rattle.std.proofs.lemmas.List.{length-take, get_or-take, get_or_default}
+use Rattle.std.proofs.lemmas.List.FromFn.{get_or-enumerate_from, length-enumerate_from}
+use Rattle.std.proofs.lemmas.List.Folds.{list_any_at, list_any_none}
+use Rattle.std.proofs.lemmas.List.Sums.{AllPass-from_list_all, list_all-from_AllPass}
+use Rattle.std.proofs.lemmas.Iterator.{YieldsList-from_slice}
+use Rattle.std.proofs.lemmas.Iterator.Consumers.{YieldsList-from_enumerate}
+use Rattle.std.proofs.lemmas.Iterator.Search.{all_from_yields_List}
+use Rattle.policies.specs.Names.{EachApart, EachOnce}
 use Rattle.policies.proofs.names.each_once.Goals as goal
 
-module _ (xs : List ℕ) (i : ℕ) (l : i < length xs) where
-  -- a name of the front of the list is the name at its place in the list
-  in_front : (j : ℕ) → j < length (take (i - 0) xs) → (j < i) × (get_or (take (i - 0) xs) j 0 ≡ get_or xs j 0)
-  in_front j h =
-      let k : j < i = omega (arith, length-take (i - 0) xs) in
-      (k, get_or-take (i - 0) xs j 0 (omega arith))
+-- whether a name is below the length and stands at no place before its own
+abbrev stands_once : List ℕ → ℕ × ℕ → Bool
+stands_once list (i, name) = nat_lt name (length list) && not (list_any (λ y. y == name) (take i list))
 
-  -- a name that stood before is a name twice
-  twice : (j : ℕ) → j < length (take (i - 0) xs) → get_or (take (i - 0) xs) j 0 ≡ get_or xs i 0 → EachApart (length xs) xs → ⊥
-  twice j h e apart = let (k, is) = in_front j h in apart j i k l (sym is ∙ e)
+module _ (list : List ℕ) where
+  -- what stands at a place, with the place
+  pair_at : (k : ℕ) (d : ℕ × ℕ) → k < length list → get_or (enumerate_from 0 list) k d ≡ (k, get_or list k 0)
+  pair_at k d l =
+      let from_zero : 0 + k ≡ k = omega arith in
+      let name = get_or_default list k d.1 0 l in
+      get_or-enumerate_from 0 list k d l ∙ cc
 
-  -- a name that did not stand before differs from all of them
-  fresh
-      : EachApart i xs
-      → ((j : ℕ) → j < length (take (i - 0) xs) → get_or (take (i - 0) xs) j 0 ≡ get_or xs i 0 → ⊥)
-      → EachApart (i + 1) xs
-  fresh apart new j k a b e = go (dec_lt k i)
+  -- a list of which each name passes names each number once
+  passes_once : AllPass (stands_once list) (enumerate_from 0 list) → EachOnce list
+  passes_once passed = (λ k l. ltb-true _ _ (parts k l).0, apart)
     where
-      go : Dec (k < i) → ⊥
-      go (yes h) = apart j k a h e
-      go (no h) =
-          let is : k ≡ i = omega arith in
-          let f : j < length (take (i - 0) xs) = omega (arith, length-take (i - 0) xs) in
-          new j f ((in_front j f).1 ∙ (e ∙ ap (λ n. get_or xs n 0) is))
+      parts : (k : ℕ) → k < length list → (nat_lt (get_or list k 0) (length list) ≡ true) × (not (list_any (λ y. y == get_or list k 0) (take k list)) ≡ true)
+      parts k l =
+          let there : k < length (enumerate_from 0 list) = omega (arith, length-enumerate_from 0 list) in
+          and_parts _ _ (sym (ap (stands_once list) (pair_at k (0, 0) l)) ∙ passed k (0, 0) there)
 
-pub returns-then-contains : goal.returns-then-contains
-returns-then-contains c =
-    let (j, h, at) = c.if-contains.ensures.cases in
-    record { once = (λ z. absurd z, λ (below, apart). twice c.args.list.now c.loop-i.i (omega arith) j h (eqb-true _ _ (at 0)) apart) }
+      apart : EachApart (length list) list
+      apart j k a l e =
+          let before : j < length (take k list) = omega (arith, length-take k list) in
+          let found = list_any_at (λ y. y == get_or list k 0) (take k list) j 0 before (eq-eqb _ _ (get_or-take k list j 0 a ∙ e)) in
+          both_ways _ (not-true _ (parts k l).1) found
 
-pub loop-i-preserved : goal.loop-i-preserved
-loop-i-preserved c =
-    let new = c.if-contains.ensures.cases in (
-      below_more _ _ c.loop-i.invariant.0 c.if-name-list.false,
-      fresh c.args.list.now c.loop-i.i (omega arith) c.loop-i.invariant.1 (λ j h. eqb-false _ _ (new j 0 zero-le h)),
-    )
+  -- and the other way round
+  once_passes : EachOnce list → AllPass (stands_once list) (enumerate_from 0 list)
+  once_passes (below, apart) k d l = ap (stands_once list) (pair_at k d there) ∙ and_from _ _ (lt-ltb _ _ (below k there)) (ap not new)
+    where
+      there : k < length list
+      there = omega (arith, length-enumerate_from 0 list)
+
+      new : list_any (λ y. y == get_or list k 0) (take k list) ≡ false
+      new =
+          list_any_none (λ y. y == get_or list k 0) (take k list)
+          (λ j e h. let a : j < k = omega (arith, length-take k list) in ne_eqb _ _ (λ is. apart j k a there (get_or_default list j 0 e (omega (arith, there)) ∙ sym (get_or-take k list j e a) ∙ is)))
+
+pub returns : goal.returns
+returns c =
+    let list = c.args.list.now in
+    let is : c.all.result ≡ list_all (stands_once list) (enumerate_from 0 list) = all_from_yields_List (stands_once list) _ _ _ c.all.ensures.ran (YieldsList-from_enumerate (YieldsList-from_slice list cc) cc) (λ x b q k. search (rules, tests)) in
+    record {
+      once = (
+        λ passed. passes_once list (AllPass-from_list_all _ _ (sym is ∙ search rules)),
+        λ once. subst T (sym (is ∙ list_all-from_AllPass _ _ (once_passes list once))) tt,
+      );
+    }

@@ -1,16 +1,11 @@
-use Rattle.std.proofs.Common.{refl, arith}
+use Rattle.std.proofs.Common.{◌≡◌, length, refl, arith}
 use Rattle.policies.specs.Naming.{named_list, once_arranged}
 use Rattle.policies.proofs.roster.Roster.from_list.Goals as goal
-
-pub returns-then-not-each_once : goal.returns-then-not-each_once
-returns-then-not-each_once c =
-    let both = once_arranged c.args.count.value c.args.list.now c.if-list-count.false in
-    record { value = λ a. c.if-not-each_once.ensures.once.1 (both.1 a) }
 
 pub returns : goal.returns
 returns c =
     let list = c.args.list.now in
-    let long = c.if-list-count.false in
+    let long : length list ≡ c.args.count.value = omega arith in
     record {
       value = (
         (once_arranged c.args.count.value list long).0 (c.if-not-each_once.ensures.once.0 tt),

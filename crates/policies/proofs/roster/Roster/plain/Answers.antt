@@ -1,4 +1,4 @@
-use Rattle.std.proofs.Common.{◌≡◌, ℕ, ◌<◌, ◌≤◌, get_or, refl, arith}
+use Rattle.std.proofs.Common.{◌≡◌, ℕ, ◌<◌, ◌≤◌, get_or, arith}
 use Rattle.std.specs.List.{range_with_len}
 use Rattle.std.proofs.lemmas.List.FromFn.{get_or-range_with_len, get_or-map-range_with_len, length-map-range_with_len}
 use Rattle.policies.specs.Names.{named}
@@ -13,5 +13,5 @@ counted m h = named_list m (range_with_len 0 8) (upward m) (length-map-range_wit
     same : (k : ℕ) → k < m → get_or (range_with_len 0 8) k 0 ≡ get_or (upward m) k 0
     same k l = omega (arith, get_or-range_with_len 0 8 k 0 (omega arith), get_or-map-range_with_len (λ k. k) 0 m k k 0 l (omega arith))
 
-pub returns : goal.returns
-returns c = record { count = refl; order = counted c.args.count.value c.args.count.ok.1 }
+pub returns-clause-order : goal.returns-clause-order
+returns-clause-order c = counted c.args.count.value c.args.count.ok.1
