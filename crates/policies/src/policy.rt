@@ -2,7 +2,8 @@ ghost use Rattle.policies.specs.Policies.{Lawful, Means};
 ghost use Rattle.std.specs.List.{slice_get};
 ghost use Rattle.std.specs.Prelude.{◌≡◌};
 
-// In which order the controllers are tried for a task.
+// In which order the controllers are tried for a task. A level is a plain number: a row may hold any, and a type of two levels
+// would ask callers for a check first.
 pub trait Policy {
     // How many controllers there are, their order for each level, and the policy after it is told.
     ghost meaning: { Means Self };
@@ -15,7 +16,7 @@ pub trait Policy {
     fn place(&self, level: u8, k: u8) -> Option<u8>
         ensures value { result ≡ slice_get (meaning.order self.now level) k };
 
-    // Tells the policy that a task of this level went to this controller.
+    // Tells the policy that a task of this level went to this controller. No body serves each policy, so none stands here.
     fn tell(&mut self, level: u8, controller: u8)
         ensures after { self.new ≡ meaning.told self.old level controller };
 

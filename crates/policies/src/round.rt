@@ -1,5 +1,5 @@
 ghost use Rattle.std.specs.Prelude.{◌≡◌, ℕ, refl};
-ghost use Rattle.policies.specs.Meanings.{next_first, round_means};
+ghost use Rattle.policies.specs.Meanings.{round_means};
 ghost use Rattle.policies.specs.Orders.{round_from};
 ghost use Rattle.tasks.specs.Counts.{clamped};
 ghost use Rattle.policies.specs.Arranged.{round_arranged};
@@ -27,17 +27,6 @@ impl Round {
     }
 }
 
-// Where the round begins after it went to this controller.
-fn after(count: Count, first: u8, controller: u8) -> u8
-    ensures value { result ≡ next_first count.value first controller }
-{
-    if controller < count.value {
-        controller + 1
-    } else {
-        first
-    }
-}
-
 impl Policy for Round {
     ghost meaning = { round_means };
 
@@ -56,6 +45,8 @@ impl Policy for Round {
     }
 
     fn tell(&mut self, _level: u8, controller: u8) {
-        self.first = after(self.count, self.first, controller);
+        if controller < self.count.value {
+            self.first = controller + 1;
+        }
     }
 }
