@@ -1,58 +1,17 @@
 -- So many different numbers, each below so many, leave out none.
-use Rattle.std.specs.Prelude.{◌≡◌, ℕ, zero, suc, ◌-◌, ◌<◌, ◌≤◌, cond, ◌⊎◌, ◌≢◌, nat_lt}
-use Rattle.std.proofs.Common.{sym, ◌∙◌, inl, inr, arith}
-use Rattle.std.proofs.Math.Decide.{dec_lt}
-use Rattle.std.proofs.lemmas.Bool.{cases_eq, cond-true, cond-false, lt-ltb, le-ltb}
-use Rattle.std.proofs.lemmas.Bool.Decides.{nat_tests}
-
--- x, where v is left out of the numbers and those above it move down
-without : ℕ → ℕ → ℕ
-without v x = cond (nat_lt v x) (x - 1) x
-
-without_below : (n v x : ℕ) → v < suc n → x < suc n → (x ≢ v) → without v x < n
-unfolding without
-without_below n v x a b d = grind (arith, nat_tests)
-
-without_apart : (v x y : ℕ) → (x ≢ v) → (y ≢ v) → without v x ≡ without v y → x ≡ y
-unfolding without
-without_apart v x y a b e = grind (arith, nat_tests)
-
--- n + 1 different numbers do not fit below n
-no_room : (n : ℕ) (f : ℕ → ℕ) → ((k : ℕ) → k < suc n → f k < n) → ((j k : ℕ) → j < k → k < suc n → f j ≢ f k) → ⊥
-no_room zero f below apart = omega (arith, below 0 (omega arith))
-no_room (suc n) f below apart =
-    no_room n (λ k. without (f (suc n)) (f k))
-    (λ k l. without_below n (f (suc n)) (f k) (below (suc n) (omega arith)) (below k (omega arith)) (apart k (suc n) l (omega arith)))
-    (λ j k a b e. apart j k a (omega arith) (without_apart (f (suc n)) (f j) (f k) (apart j (suc n) (omega arith) (omega arith)) (apart k (suc n) b (omega arith)) e))
-
--- a number stands at some place below n, or at none
-find : (n : ℕ) (f : ℕ → ℕ) (c : ℕ) → ((k : ℕ) × (k < n) × (f k ≡ c)) ⊎ ((k : ℕ) → k < n → f k ≢ c)
-find zero f c = inr (λ k l e. omega arith)
-find (suc n) f c = go (cases_eq (f n) c) (find n f c)
-  where
-    go
-        : (f n ≡ c) ⊎ (f n ≢ c)
-        → ((k : ℕ) × (k < n) × (f k ≡ c)) ⊎ ((k : ℕ) → k < n → f k ≢ c)
-        → ((k : ℕ) × (k < suc n) × (f k ≡ c)) ⊎ ((k : ℕ) → k < suc n → f k ≢ c)
-    go (inl e) rest = inl (n, omega arith, e)
-    go (inr d) (inl (k, l, e)) = inl (k, omega arith, e)
-    go (inr d) (inr none) = inr (λ k l e. last k l e (dec_lt k n))
-      where
-        last : (k : ℕ) → k < suc n → f k ≡ c → Dec (k < n) → ⊥
-        last k l e (yes h) = none k h e
-        last k l e (no h) = let is : k ≡ n = omega arith in d (rw is at e)
-
--- f below n, and c after that
-more : ℕ → (ℕ → ℕ) → ℕ → ℕ → ℕ
-more n f c k = cond (nat_lt k n) (f k) c
-
-more_old : (n : ℕ) (f : ℕ → ℕ) (c k : ℕ) → k < n → more n f c k ≡ f k
-unfolding more
-more_old n f c k l = cond-true (nat_lt k n) (f k) c (lt-ltb k n l)
-
-more_new : (n : ℕ) (f : ℕ → ℕ) (c k : ℕ) → n ≤ k → more n f c k ≡ c
-unfolding more
-more_new n f c k l = cond-false (nat_lt k n) (f k) c (le-ltb k n l)
+use Rattle.std.specs.Prelude.{◌≡◌, ℕ, ◌<◌, true, false, List, [], ◌∷◌, ◌++◌, length, ◌==◌, ◌⊎◌, ◌≢◌}
+use Rattle.std.proofs.Common.{sym, ◌∙◌, inl, inr, get_or, arith, length-append}
+use Rattle.std.specs.List.{list_any}
+use Rattle.std.specs.Cmp.{nat_eq_equiv}
+use Rattle.std.proofs.Math.Bool.{or-false}
+use Rattle.std.proofs.lemmas.Bool.{cases_Bool, or_cases, eqb-true}
+use Rattle.std.proofs.lemmas.Bool.Decides.{Decides-eqb}
+use Rattle.std.proofs.lemmas.List.Folds.{Any-from_list_any, list_any-append}
+use Rattle.std.proofs.lemmas.List.FromFn.{get_or-map-range_with_len, length-map-range_with_len}
+use Rattle.std.proofs.lemmas.Map.Keys.{IsDistinct-push}
+use Rattle.std.proofs.lemmas.Map.Made.{IsDistinct-from_AllPairs}
+use Rattle.std.proofs.lemmas.Map.Steps.{length-le_from_distinct_below}
+use Rattle.policies.specs.Orders.{by_place}
 
 -- n different numbers below n are all of them
 pub none_left_out
@@ -60,16 +19,40 @@ pub none_left_out
     → ((k : ℕ) → k < n → f k < n)
     → ((j k : ℕ) → j < k → k < n → f j ≢ f k)
     → (c : ℕ) → c < n → (k : ℕ) × (k < n) × (f k ≡ c)
-none_left_out n f below apart c h = go (find n f c)
+none_left_out n f below apart c h = go (cases_Bool (list_any (λ y. c == y) all))
   where
-    below' : (k : ℕ) → Dec (k < n) → more n f c k < n
-    below' k (yes l) = omega (arith, more_old n f c k l, below k l)
-    below' k (no l) = omega (arith, more_new n f c k (omega arith))
+    all : List ℕ
+    all = by_place n f
 
-    go : ((k : ℕ) × (k < n) × (f k ≡ c)) ⊎ ((k : ℕ) → k < n → f k ≢ c) → (k : ℕ) × (k < n) × (f k ≡ c)
-    go (inl found) = found
-    go (inr none) = absurd (no_room n (more n f c) (λ k l. below' k (dec_lt k n)) (λ j k a b e. apart' j k a b e (dec_lt k n)))
+    long : length all ≡ n
+    long = length-map-range_with_len f 0 n
+
+    at : (k d : ℕ) → k < n → get_or all k d ≡ f k
+    at k d l = get_or-map-range_with_len f 0 n k k d l (omega arith)
+
+    inside : (k : ℕ) → k < length all → k < n
+    inside k l = omega (arith, long)
+
+    -- a number that stands in the list is at some place
+    place : (x : ℕ) → list_any (λ y. x == y) all ≡ true → (k : ℕ) × (k < n) × (f k ≡ x)
+    place x e =
+        let (k, y, l, is, same) = Any-from_list_any (λ y. x == y) all e in
+        (k, inside k l, sym (at k y (inside k l)) ∙ is ∙ sym (eqb-true x y same))
+
+    -- one number more would be below n too, where none is left
+    one_more : list_any (λ y. c == y) all ≡ false → (x : ℕ) → list_any (λ y. x == y) (all ++ c ∷ []) ≡ true → x < n
+    one_more none x e = case (or_cases _ _ (sym (list_any-append (λ y. x == y) all (c ∷ [])) ∙ e))
       where
-        apart' : (j k : ℕ) → j < k → k < suc n → more n f c j ≡ more n f c k → Dec (k < n) → ⊥
-        apart' j k a b e (yes l) = apart j k a l (sym (more_old n f c j (omega arith)) ∙ (e ∙ more_old n f c k l))
-        apart' j k a b e (no l) = none j (omega arith) (sym (more_old n f c j (omega arith)) ∙ (e ∙ more_new n f c k (omega arith)))
+        case : (list_any (λ y. x == y) all ≡ true) ⊎ (list_any (λ y. x == y) (c ∷ []) ≡ true) → x < n
+        case (inl old) = let (k, l, is) = place x old in let b = below k l in omega arith
+        case (inr new) = let is : x ≡ c = eqb-true x c (sym (or-false (x == c)) ∙ new) in omega arith
+
+    go : (list_any (λ y. c == y) all ≡ true) ⊎ (list_any (λ y. c == y) all ≡ false) → (k : ℕ) × (k < n) × (f k ≡ c)
+    go (inl e) = place c e
+    go (inr none) =
+        let distinct =
+        IsDistinct-push nat_eq_equiv all c
+        (IsDistinct-from_AllPairs Decides-eqb all (λ j k d l m e. apart j k l (inside k m) (sym (at j d (omega (arith, inside k m))) ∙ e ∙ at k d (inside k m))))
+        none in
+        let few = length-le_from_distinct_below (all ++ c ∷ []) n distinct (one_more none) in
+        absurd (omega (arith, few, long, length-append all (c ∷ [])))
