@@ -1,13 +1,12 @@
 -- The set of the busy controllers, one controller at a time, and its two counts.
-use Rattle.std.proofs.Common.{◌≡◌, ℕ, zero, suc, ◌+◌, ◌*◌, ◌/◌, ◌%◌, ◌^◌, ◌<◌, ◌≤◌, Bool, true, false, [], ◌∷◌, length, take, is_some, Some, None, Err, Option, sym, refl, ap, ◌∙◌, ap₂, ⊎_elim, pow-suc, add-one, arith}
+use Rattle.std.proofs.Common.{◌≡◌, ℕ, zero, suc, ◌+◌, ◌*◌, ◌/◌, ◌%◌, ◌^◌, ◌<◌, ◌≤◌, Bool, true, false, [], ◌∷◌, length, take, is_some, Some, None, Option, ◌⊎◌, inl, inr, not, ◌==◌, sym, refl, ap, ◌∙◌, ap₂, pow-suc, add-one, arith}
+use Rattle.std.specs.Bool.{then_some}
 use lib.Bits.{bit_or}
 use lib.Count.{ones, count_trailing_zeros, under, ones_cat, ones-ones}
 use Rattle.std.proofs.lemmas.Nat.{or_comm, or_shifted, one_shl}
-use Rattle.std.proofs.lemmas.List.{length-take-le, get_or_past}
-use Rattle.std.proofs.lemmas.Bool.{cases_lt}
-use Rattle.tasks.specs.declared.fault.BenchFault.{BenchFault}
-use Rattle.benches.proofs.Commands.{state_is}
-use Rattle.benches.specs.Commands.{States, state_answer}
+use Rattle.std.proofs.lemmas.List.{length-take-le}
+use Rattle.std.proofs.lemmas.Bool.{cases_eq, eq-eqb, ne_eqb}
+use Rattle.benches.specs.Commands.{States}
 use Rattle.benches.specs.Sets.{one_if_busy, busy_set, busy_count, busy_at, lowest_busy, one_up}
 
 -- bit i of a set, where controller i is busy
@@ -89,10 +88,10 @@ lowest_is (Some v ∷ m) (suc k) l h =
     let e = half 1 (busy_set m) (omega arith) in
     ap Some (sym (ap₂ under e.0 (ap (count_trailing_zeros k) e.1)))
 
--- a controller that is not there is not busy
-pub refused_idle : (m : States) (c : ℕ) (f : BenchFault) → Err f ≡ state_answer m c → false ≡ busy_at m c
-refused_idle m c f e =
-    ⊎_elim
-    (λ l. let z : ◌≡◌ {A = ℕ} 0 1 = (let k = e ∙ sym (state_is m c l) in cc) in absurd (omega arith))
-    (λ g. sym (ap is_some (get_or_past m c None g)))
-    (cases_lt c (length m))
+-- the lowest busy controller, as the code finds it in the set
+pub lowest_by_set : (m : States) → length m ≤ 8 → then_some (not (busy_set m == 0)) (count_trailing_zeros 8 (busy_set m)) ≡ lowest_busy m
+lowest_by_set m few = go (cases_eq (busy_set m) 0)
+  where
+    go : (busy_set m ≡ 0) ⊎ (busy_set m ≡ 0 → ⊥) → then_some (not (busy_set m == 0)) (count_trailing_zeros 8 (busy_set m)) ≡ lowest_busy m
+    go (inl e) = let empty = eq-eqb _ _ e in simp empty (sym (none_busy m e))
+    go (inr d) = let some = ne_eqb _ _ d in simp some (sym (lowest_is m 8 few (omega arith)))

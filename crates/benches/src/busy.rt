@@ -7,11 +7,7 @@ use crate::bench::Bench;
 fn is_busy<B: Bench>(bench: &B, controller: u8) -> bool
     ensures value { result ≡ busy_at (B.meaning bench.now) controller }
 {
-    match bench.state(controller) {
-        Ok(Some(_)) => true,
-        Ok(None) => false,
-        Err(_) => false,
-    }
+    matches!(bench.state(controller), Ok(Some(_)))
 }
 
 // The busy controllers, a bit for each.
@@ -19,9 +15,9 @@ pub fn busy_set<B: Bench>(bench: &B) -> u8
     ensures value { result ≡ busy_set (B.meaning bench.now) }
 {
     let mut set: u8 = 0;
-    for i in 0..bench.count() {
-        if is_busy(bench, i) {
-            set |= 1 << i;
+    for controller in 0..bench.count() {
+        if is_busy(bench, controller) {
+            set |= 1 << controller;
         }
     }
     set
@@ -39,9 +35,5 @@ pub fn lowest_busy<B: Bench>(bench: &B) -> Option<u8>
     ensures value { result ≡ lowest_busy (B.meaning bench.now) }
 {
     let set = busy_set(bench);
-    if set == 0 {
-        None
-    } else {
-        Some(set.trailing_zeros() as u8)
-    }
+    (set != 0).then_some(set.trailing_zeros() as u8)
 }

@@ -1,13 +1,12 @@
-use Rattle.std.proofs.Common.{◌<◌, ◌≤◌, length, sym, ap, ◌∙◌, arith, take_all}
-use Rattle.benches.specs.Sets.{busy_set}
+use Rattle.std.proofs.Common.{◌<◌, length, sym, arith}
 use Rattle.benches.proofs.BusySets.{set_more, set_take_lt, or_bit}
 use Rattle.benches.proofs.busy.busy_set.Goals as goal
 use Rattle.benches.proofs.busy.busy_set.Goals.{then-is_busy, else-is_busy}
 
-pub loop-i-preserved : goal.loop-i-preserved
-loop-i-preserved g c =
+pub loop-controller-preserved : goal.loop-controller-preserved
+loop-controller-preserved g c =
     let m = g.B.Bench.meaning c.args.bench.now in
-    let i = c.loop-i.i in
+    let i = c.loop-controller.controller in
     let small = g.B.Bench.few c.args.bench.now in
     let l : i < length m = omega arith in
     let more = set_more m i l in
@@ -15,11 +14,5 @@ loop-i-preserved g c =
     let or = or_bit _ i lt (omega arith) in
     elim c.if-is_busy.branch [
       | then-is_busy w ↦ let was = w.if-is_busy.ensures.value in let is = w.set-is in let bit = simp (sym was) at more in cc
-      | else-is_busy w ↦ let was = w.if-is_busy.ensures.value in let bit = simp (sym was) at more in omega (arith, w.set-is, c.loop-i.invariant)
+      | else-is_busy w ↦ let was = w.if-is_busy.ensures.value in let bit = simp (sym was) at more in omega (arith, w.set-is, c.loop-controller.invariant)
     ]
-
-pub returns : goal.returns
-returns g c =
-    let m = g.B.Bench.meaning c.args.bench.now in
-    let all : length m ≤ c.loop-i.i = omega arith in
-    record { value = c.loop-i.invariant ∙ ap busy_set (take_all _ _ all) }
