@@ -1,7 +1,6 @@
 -- What each call comes to, case by case, and that it touches one controller.
-use Rattle.std.proofs.Common.{◌≡◌, ℕ, ◌<◌, ◌≤◌, cond, ltb, List, length, get_or, take, set, Some, None, Ok, Err, Option, Result, sym, refl, subst, ap₂, arith, length-set, get_or-set_other}
+use Rattle.std.proofs.Common.{◌≡◌, ℕ, ◌<◌, ◌≤◌, cond, ltb, length, get_or, set, Some, None, Ok, Err, Option, Result, sym, refl, subst, ap₂, length-set, get_or-set_other}
 use Rattle.std.proofs.lemmas.Bool.{lt-ltb, le-ltb, le-leb, lt-leb}
-use Rattle.std.proofs.lemmas.List.{length-take}
 use Rattle.tasks.specs.declared.fault.BenchFault.{BenchFault}
 use Rattle.tasks.specs.declared.fault.BenchFault.TheVariants.{NoController, NoRow, Busy, Idle}
 use Rattle.benches.specs.Commands.{OthersKept, States, by_answer, start_answer, start_after, end_answer, end_after, state_answer}
@@ -82,11 +81,3 @@ end_others m n c e = subst (λ x. OthersKept m x c) (sym e) (others_by (end_answ
 -- a question's answer
 pub state_is : (m : States) (c : ℕ) → c < length m → Ok (get_or m c None) ≡ state_answer m c
 state_is m c h = let e = lt-ltb c (length m) h in simp e
-
--- a controller of a table's front is one of the table's
-pub within : {X : Type 0} (n : ℕ) (t : List X) (i : ℕ) → n ≤ length t → i < n → i < length (take n t)
-within n t i h l = simp length-take (omega arith)
-
--- a controller past a table's front
-pub beyond : {X : Type 0} (n : ℕ) (t : List X) (i : ℕ) → n ≤ i → length (take n t) ≤ i
-beyond n t i h = simp length-take (omega arith)

@@ -1,6 +1,6 @@
 ghost use Rattle.std.specs.Prelude.{◌≡◌, ◌≤◌, length};
 
-// A bench that keeps its own table.
+// A bench that keeps its own table. Only the first `count` of eight places are in use: memory is fixed.
 #[derive(Drop)]
 pub struct Slate {
     pub(crate) count: u8,

@@ -32,40 +32,30 @@ impl Bench for Slate {
     }
 
     fn start(&mut self, controller: u8, row: u8) -> Result<(), BenchFault> {
-        if controller >= self.count {
-            return Err(BenchFault::NoController { controller });
-        }
+        let held = self.state(controller)?;
         if row > HIGHEST_ROW {
             return Err(BenchFault::NoRow { row });
         }
-        let held = self.table[controller as usize];
-        match held {
-            Some(_) => Err(BenchFault::Busy { controller }),
-            None => {
-                self.table[controller as usize] = Some(row);
-                Ok(())
-            }
+        if held.is_some() {
+            return Err(BenchFault::Busy { controller });
         }
+        self.table[usize::from(controller)] = Some(row);
+        Ok(())
     }
 
     fn end(&mut self, controller: u8) -> Result<(), BenchFault> {
-        if controller >= self.count {
-            return Err(BenchFault::NoController { controller });
+        if self.state(controller)?.is_none() {
+            return Err(BenchFault::Idle { controller });
         }
-        let held = self.table[controller as usize];
-        match held {
-            None => Err(BenchFault::Idle { controller }),
-            Some(_) => {
-                self.table[controller as usize] = None;
-                Ok(())
-            }
-        }
+        self.table[usize::from(controller)] = None;
+        Ok(())
     }
 
     fn state(&self, controller: u8) -> Result<Option<u8>, BenchFault> {
-        if controller >= self.count {
-            return Err(BenchFault::NoController { controller });
-        }
-        Ok(self.table[controller as usize])
+        let table = &self.table[..usize::from(self.count)];
+        table
+            .get(usize::from(controller))
+            .copied()
+            .ok_or(BenchFault::NoController { controller })
     }
 }
