@@ -1,5 +1,5 @@
 -- Lemmas on benches.
 pub mod BusySets
 pub mod Bytes
+pub mod Made
 pub mod Commands
-pub mod Released

@@ -1,7 +1,8 @@
 -- What the bytes of a register bench mean.
-use Rattle.std.specs.Prelude.{ℕ, zero, suc, ◌+◌, ◌≤◌, List, map, length, take, drop, Some, None, Option, slice_index, slice_set}
+use Rattle.std.specs.Prelude.{◌≡◌, ℕ, zero, suc, ◌+◌, ◌≤◌, List, map, length, take, drop, Some, None, Ok, Err, Option, Result, slice_index, slice_set}
 use Rattle.std.proofs.Common.{arith}
 use Rattle.std.proofs.lemmas.List.{length-take, length-map}
+use Rattle.tasks.specs.declared.fault.BenchFault.{BenchFault}
 use Rattle.benches.specs.Commands.{States, by_answer, start_answer, end_answer}
 
 -- What a controller does by its byte: 0 where it is idle, v where it is busy with row v - 1.
@@ -20,6 +21,11 @@ start_bytes bytes c row = by_answer (start_answer (shown_by bytes) c row) (slice
 -- The bytes after an end: where it is taken the controller's byte is changed, and no other ever is.
 abbrev pub end_bytes : List ℕ → ℕ → List ℕ
 end_bytes bytes c = by_answer (end_answer (shown_by bytes) c) (slice_set bytes (c + 1) 0) bytes
+
+-- What a command answers and what bytes it leaves, by what it made of the controller's byte.
+abbrev pub Commanded : List ℕ → ℕ → Result ℕ BenchFault → Result (Unit {0}) BenchFault → List ℕ → Type 0
+Commanded before c (Ok byte) result after = (result ≡ Ok tt) × (after ≡ slice_set before (c + 1) byte)
+Commanded before c (Err fault) result after = (result ≡ Err fault) × (after ≡ before)
 
 -- A register bench has at most eight controllers.
 pub few_shown : (bytes : List ℕ) → length (shown_by bytes) ≤ 8

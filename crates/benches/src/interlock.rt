@@ -11,11 +11,8 @@ impl Drop for Interlock<'_> {
         requires { 0 < length self.bytes.now }
         ensures { self.exit.0.now ≡ slice_set self.entry.bytes.now 0 self.entry.before }
     {
-        self.bytes[0] = self.before;
-        let Interlock {
-            bytes: _,
-            before: _,
-        } = self;
+        let Interlock { bytes, before } = self;
+        bytes[0] = before;
     }
 }
 

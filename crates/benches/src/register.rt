@@ -21,6 +21,7 @@ impl<'a> RegisterBench<'a> {
     }
 }
 
+// The clauses of an impl's method replace the trait's: `start` and `end` say the trait's again, and then what the bytes are.
 impl<'a> Bench for RegisterBench<'a> {
     ghost meaning = { λ b. shown_by b.bytes.now };
 
@@ -60,9 +61,6 @@ impl<'a> Bench for RegisterBench<'a> {
         if controller >= shown(self.bytes) {
             return Err(BenchFault::NoController { controller });
         }
-        match self.bytes[controller as usize + 1] {
-            0 => Ok(None),
-            v => Ok(Some(v - 1)),
-        }
+        Ok(self.bytes[usize::from(controller) + 1].checked_sub(1))
     }
 }

@@ -1,20 +1,16 @@
-use Rattle.std.proofs.Common.{refl, ap, ◌∙◌}
+use Rattle.std.proofs.Common.{ap, ◌∙◌}
 use Rattle.benches.specs.Registers.{shown_by, around}
 use Rattle.benches.proofs.Bytes.{start_shown, start_around}
 use Rattle.benches.proofs.Commands.{start_others}
 use Rattle.benches.proofs.register.RegisterBenchBench.start.Goals as goal
 
-pub returns : goal.returns
-returns c =
-    let e = c.start_in.ensures in
-    let bytes = c.args.self.now.bytes.now in
-    let i = c.args.controller in
-    let after = ap shown_by e.after ∙ start_shown bytes i c.args.row in
-    record {
-      answer = e.answer;
-      after = after;
-      others = start_others _ _ i c.args.row after;
-      fixed = ap (around c.args.self.now.bytes.ghost_name) e.after ∙ start_around _ bytes i c.args.row;
-      same = refl;
-      bytes = e.after;
-    }
+pub returns-clause-after : goal.returns-clause-after
+returns-clause-after c = ap shown_by c.start_in.ensures.after ∙ start_shown c.args.self.now.bytes.now c.args.controller c.args.row
+
+pub returns-clause-others : goal.returns-clause-others
+returns-clause-others c = start_others _ _ c.args.controller c.args.row (returns-clause-after c)
+
+pub returns-clause-fixed : goal.returns-clause-fixed
+returns-clause-fixed c =
+    let bytes = c.args.self.now.bytes in
+    ap (around bytes.ghost_name) c.start_in.ensures.after ∙ start_around bytes.ghost_name bytes.now c.args.controller c.args.row
