@@ -23,14 +23,14 @@ pub fn busy_set<B: Bench>(bench: &B) -> u8
     set
 }
 
-// How many controllers are busy.
+// How many controllers are busy. They are at most eight, so the cast needs no `try_from`.
 pub fn busy_count<B: Bench>(bench: &B) -> u8
     ensures value { result ≡ busy_count (B.meaning bench.now) }
 {
     busy_set(bench).count_ones() as u8
 }
 
-// The lowest controller that is busy, if any is.
+// The lowest controller that is busy, if any is; the cast as above.
 pub fn lowest_busy<B: Bench>(bench: &B) -> Option<u8>
     ensures value { result ≡ lowest_busy (B.meaning bench.now) }
 {

@@ -7,7 +7,7 @@ use crate::bench::HIGHEST_ROW;
 use crate::interlock::Interlock;
 use tasks::BenchFault;
 
-// How many controllers the bytes have.
+// How many controllers the bytes have. They are at most eight, so the cast needs no `try_from`.
 pub(crate) fn shown(bytes: &[u8]) -> u8
     ensures value { result ≡ length (shown_by bytes.now) }
 {

@@ -18,7 +18,7 @@ pub(crate) fn down(count: Count, k: u8) -> Option<u8>
     (k < count.value).then(|| count.value - 1 - k)
 }
 
-// The controller at place `k` round from this one.
+// The controller at place `k` round from this one. The remainder fits a byte, as is proved, so the cast needs no `try_from`.
 pub(crate) fn around(count: Count, first: u8, k: u8) -> Option<u8>
     ensures value { result ≡ slice_get (round_from first count.value) k }
 {
