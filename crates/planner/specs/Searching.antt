@@ -1,7 +1,7 @@
 -- What the searches for a start, for a controller and for a task out of range answer.
 use Rattle.std.specs.Prelude.{◌≡◌, ℕ, ◌+◌, ◌<◌, ◌≤◌, List, Some, None, Option, slice_index}
 use Rattle.std.specs.List.{slice_get}
-use Rattle.slots.specs.Divisors.{Gcd}
+use Rattle.std.specs.Int.{IsGcd}
 use Rattle.tasks.specs.Tasks.{InRange, budget}
 use Rattle.tasks.specs.declared.task.Task.{Task}
 use Rattle.planner.specs.Placing.{Blocks, Least, PlacedAs, PlacedOn, Takes}
@@ -10,7 +10,7 @@ use Rattle.planner.specs.declared.row.Row.{Row}
 -- at the place of each placed row stands the greatest common divisor of the task's period and its own
 abbrev pub Divide : List ℕ → List Row → Task → Type 0
 Divide divisors placed task =
-    (i : ℕ) (row : Row) → slice_get placed i ≡ Some row → Gcd task.period row.task.period (slice_index divisors i)
+    (i : ℕ) (row : Row) → slice_get placed i ≡ Some row → IsGcd task.period row.task.period (slice_index divisors i)
 
 -- on controller c in the mode, the row pushes the task's start n further on from s: each start that is passed over meets the
 -- row, and s itself does not where n is 0

@@ -4,12 +4,12 @@ ghost use Rattle.planner.specs.Placing.{Clear};
 ghost use Rattle.planner.specs.Rows.{Sound};
 ghost use Rattle.planner.specs.Searching.{Divide, LeastIf, Pushes};
 ghost use Rattle.planner.specs.Standing.{EachSound};
-ghost use Rattle.slots.specs.Divisors.{Gcd};
+ghost use Rattle.std.specs.Int.{IsGcd};
 ghost use Rattle.tasks.specs.Modes.{number};
 ghost use Rattle.tasks.specs.Tasks.{Belongs, InRange, budget};
 
 use crate::row::Row;
-use slots::{Slot, gcd, hop};
+use slots::{Slot, gcd};
 use tasks::{Mode, Task};
 
 // For each placed row the greatest common divisor of the task's period and its own: found once, for every controller, mode
@@ -32,7 +32,7 @@ fn push(controller: u8, mode: Mode, task: &Task, start: u16, row: &Row, divisor:
     requires belongs { Belongs task.now (number mode) }
     requires fits { start + budget task.now (number mode) ≤ task.now.deadline }
     requires sound { Sound row.now }
-    requires divides { Gcd task.now.period row.now.task.period divisor }
+    requires divides { IsGcd task.now.period row.now.task.period divisor }
     ensures pushes { Pushes controller (number mode) task.now start row.now result }
 {
     if row.controller != controller || !row.task.belongs(mode) {
@@ -48,7 +48,7 @@ fn push(controller: u8, mode: Mode, task: &Task, start: u16, row: &Row, divisor:
         budget: row.task.budget(mode),
         period: row.task.period,
     };
-    match hop(&own, &other, divisor) {
+    match own.hop(&other, divisor) {
         Some(further) => further,
         None => task.period as u32,
     }

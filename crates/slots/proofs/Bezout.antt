@@ -2,7 +2,7 @@
 use Rattle.std.proofs.Common.{◌≡◌, ℕ, zero, suc, ◌+◌, ◌*◌, ◌/◌, ◌%◌, ◌<◌, ◌≤◌, ◌⊎◌, sym, refl, ap, ◌∙◌, inl, inr, mod-lt, mul_assoc, suc-mul, mul_comm, add-mul, eq-zero-or-pos, div-add-mod', zero-mul, mul-add, arith}
 use Prim.Native.Nat.{◌∣◌}
 use native.Mathlib.Nat.{dvd-mod_iff, dvd_of_mod-eq-zero, dvd_refl, mul-div_cancel'}
-use Rattle.slots.specs.Divisors.{Gcd}
+use Rattle.std.specs.Int.{IsGcd}
 
 -- a common divisor that is a combination of the two, either way round
 record Bezout (a b : ℕ) : Type 0 where
@@ -70,10 +70,10 @@ bezout (suc f) a b h pa pb = go (eq-zero-or-pos (a % b)) (λ r. bezout f b (a % 
     go (inr r) ih = again a b (ih r)
 
 -- Bezout's equation at the greatest common divisor
-pub bezout_gcd : (a b g : ℕ) → 0 < a → 0 < b → Gcd a b g → (m : ℕ) × (n : ℕ) × (m * a ≡ g + n * b)
+pub bezout_gcd : (a b g : ℕ) → 0 < a → 0 < b → IsGcd a b g → (m : ℕ) × (n : ℕ) × (m * a ≡ g + n * b)
 bezout_gcd a b g pa pb h =
     let z : Bezout a b = bezout b a b (omega arith) pa pb in
-    let d : z.g ∣ g = h.greatest z.g z.left z.right in
+    let d : z.g ∣ g = h.2 z.g z.left z.right in
     let k : ℕ = g / z.g in
     let e : z.g * k ≡ g = mul-div_cancel' z.g {m = g} d in
     let f : k * (z.m * a) ≡ k * (z.g + z.n * b) = ap (λ x. k * x) z.over in

@@ -3,14 +3,14 @@ use Rattle.std.proofs.Common.{◌≡◌, ℕ, ◌+◌, ◌-◌, ◌%◌, ◌<◌
 use native.Mathlib.Nat.{add-mod_right}
 use native.Mathlib.Decide.{dec_le, dec_lt}
 use Rattle.std.proofs.lemmas.Bool.{cond_both, ltb-true, ltb-false}
-use Rattle.slots.specs.Divisors.{Gcd}
+use Rattle.std.specs.Int.{IsGcd}
 use Rattle.slots.specs.Jumps.{MeetsFrom, ClearAfter, Next, past_end, hop_over}
 use Rattle.slots.specs.Slots.{gap}
 use Rattle.slots.specs.declared.slot.Slot.{Slot}
 use Rattle.slots.proofs.Remainders.{add_same, gap_is}
 use Rattle.slots.proofs.Rule.{divisor_fits, divisor_pos, into_first, into_second, meet_by, roomy, roomy_at}
 
-module _ (x y : Slot) (g : ℕ) (h : Gcd x.period y.period g) where
+module _ (x y : Slot) (g : ℕ) (h : IsGcd x.period y.period g) where
   -- the start of x and that of y with the same added agree at g
   shifted : (e : ℕ) → (x.start + gap x.start y.start g + e) % g ≡ (y.start + e) % g
   shifted e = add_same (x.start + gap x.start y.start g) y.start e g (gap_is x.start y.start g (divisor_pos x y g h))

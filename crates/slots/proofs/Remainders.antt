@@ -3,7 +3,7 @@ use Rattle.std.proofs.Common.{◌≡◌, ℕ, zero, suc, ◌+◌, ◌-◌, ◌*�
 use Prim.Native.Nat.{◌∣◌}
 use native.Mathlib.Nat.{add-mod-mod, add-mul-mod_self_left, add-mul-mod_self_right, dvd-mul_left_of_dvd, le_dest, mod-add-mod, mul-div_cancel'}
 use native.Mathlib.Decide.{dec_le}
-use Rattle.slots.specs.Divisors.{Gcd}
+use Rattle.std.specs.Int.{IsGcd}
 use Rattle.slots.specs.Slots.{gap}
 use Rattle.slots.proofs.Bezout.{bezout_gcd}
 
@@ -43,12 +43,12 @@ same_mod : (g y c : ℕ) → g ∣ c → (y + c) % g ≡ y % g
 same_mod g y c h = ap (λ x. (y + x) % g) (sym (mul-div_cancel' g {m = c} h)) ∙ add-mul-mod_self_left y g (c / g)
 
 -- the Chinese remainder: two remainders that agree at the greatest common divisor have a common instant
-pub chinese : (a b g x y : ℕ) → Gcd a b g → x < a → y < b → x % g ≡ y % g → (t : ℕ) × (t % a ≡ x) × (t % b ≡ y)
+pub chinese : (a b g x y : ℕ) → IsGcd a b g → x < a → y < b → x % g ≡ y % g → (t : ℕ) × (t % a ≡ x) × (t % b ≡ y)
 chinese a b g x y h xa yb e =
     let pa : 0 < a = omega arith in
     let pb : 0 < b = omega arith in
     go (bezout_gcd a b g pa pb h)
-    (apart g (y + x * b) x (same_mod g y (x * b) (dvd-mul_left_of_dvd g {b = b} h.right x) ∙ sym e) (omega (arith, le-mul_of_pos_right x pb)))
+    (apart g (y + x * b) x (same_mod g y (x * b) (dvd-mul_left_of_dvd g {b = b} h.1 x) ∙ sym e) (omega (arith, le-mul_of_pos_right x pb)))
   where
     go
         : (m : ℕ) × (n : ℕ) × (m * a ≡ g + n * b)

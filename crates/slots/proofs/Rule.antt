@@ -2,21 +2,21 @@
 use Rattle.std.proofs.Common.{◌≡◌, ℕ, ◌+◌, ◌-◌, ◌%◌, ◌<◌, ◌≤◌, Bool, true, false, not, T, ◌⊎◌, ◌↔◌, sym, ap, ◌∙◌, inl, inr, ⊎_elim, add-zero, mod-lt, arith}
 use native.Mathlib.Nat.{add-mod_right, le_of_dvd, mod-mod_of_dvd, pos_of_dvd_of_pos}
 use native.Mathlib.Decide.{dec_le}
-use Rattle.slots.specs.Divisors.{Gcd}
+use Rattle.std.specs.Int.{IsGcd}
 use Rattle.slots.specs.Jumps.{MeetsFrom}
 use Rattle.slots.specs.Slots.{Meet, NeverMeetRule, Occupies, Room, gap}
 use Rattle.slots.specs.declared.slot.Slot.{Slot}
 use Rattle.slots.proofs.Remainders.{add_same, apart, chinese, gap_is, no_turn}
 
 -- the divisor is above 0 and no longer than the period
-module _ (x y : Slot) (g : ℕ) (h : Gcd x.period y.period g) where
+module _ (x y : Slot) (g : ℕ) (h : IsGcd x.period y.period g) where
   pub divisor_pos : 0 < g
-  divisor_pos = pos_of_dvd_of_pos h.left (omega arith)
+  divisor_pos = pos_of_dvd_of_pos h.0 (omega arith)
 
   pub divisor_fits : g ≤ x.period
-  divisor_fits = le_of_dvd (omega arith) h.left
+  divisor_fits = le_of_dvd (omega arith) h.0
 
-module _ (x y : Slot) (g : ℕ) (h : Gcd x.period y.period g) (s : ℕ) (fits : s + x.budget ≤ x.period) where
+module _ (x y : Slot) (g : ℕ) (h : IsGcd x.period y.period g) (s : ℕ) (fits : s + x.budget ≤ x.period) where
   -- with room for both budgets at a distance from s to the other start, up to a multiple of g, no instant is in both
   pub roomy_at : (d : ℕ) → (s + d) % g ≡ y.start % g → x.budget ≤ d → d + y.budget ≤ g → MeetsFrom x y s → ⊥
   roomy_at d e l k (t, (s1, s2), (q1, q2)) =
@@ -24,8 +24,8 @@ module _ (x y : Slot) (g : ℕ) (h : Gcd x.period y.period g) (s : ℕ) (fits : 
       let j : ℕ = t % y.period - y.start in
       let ei : s + i ≡ t % x.period = omega arith in
       let ej : y.start + j ≡ t % y.period = omega arith in
-      let left : (s + i) % g ≡ t % g = ap (λ n. n % g) ei ∙ mod-mod_of_dvd g t h.left in
-      let right : (y.start + j) % g ≡ t % g = ap (λ n. n % g) ej ∙ mod-mod_of_dvd g t h.right in
+      let left : (s + i) % g ≡ t % g = ap (λ n. n % g) ei ∙ mod-mod_of_dvd g t h.0 in
+      let right : (y.start + j) % g ≡ t % g = ap (λ n. n % g) ej ∙ mod-mod_of_dvd g t h.1 in
       let both : (s + d + j) % g ≡ (s + i) % g = add_same (s + d) y.start j g e ∙ (right ∙ sym left) in
       let m = apart g (s + d + j) (s + i) both (omega arith) in
       let z : d + j ≡ i = no_turn g i (d + j) m.0 (omega (arith, m.1)) (omega arith) in
@@ -56,7 +56,7 @@ module _ (x y : Slot) (g : ℕ) (h : Gcd x.period y.period g) (s : ℕ) (fits : 
       let f : (y.start + (g - d)) % g ≡ (s + 0) % g = add_same y.start (s + d) (g - d) g (sym back) ∙ (ap (λ n. n % g) e ∙ add-mod_right (s + 0) g) in
       meet_by 0 (g - d) (omega arith) (omega arith) (sym f)
 
-module _ (x y : Slot) (g : ℕ) (h : Gcd x.period y.period g) where
+module _ (x y : Slot) (g : ℕ) (h : IsGcd x.period y.period g) where
   -- with room they never meet
   apart_by_room : Room x y g → Meet (Occupies x) (Occupies y) → ⊥
   apart_by_room (l, k) = roomy x y g h x.start x.ok.1 l k

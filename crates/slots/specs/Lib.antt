@@ -1,5 +1,4 @@
 -- What slots are and when they meet.
-pub mod Divisors
 pub mod Jumps
 pub mod Ranges
 pub mod Slots

@@ -1,6 +1,6 @@
 -- When a periodic slot is on, and when two slots meet.
 use Rattle.std.specs.Prelude.{ℕ, ◌+◌, ◌-◌, ◌%◌, ◌<◌, ◌≤◌, ◌↔◌}
-use Rattle.slots.specs.Divisors.{Gcd}
+use Rattle.std.specs.Int.{IsGcd}
 use Rattle.slots.specs.declared.slot.Slot.{Slot}
 
 -- The slot with this start, budget and period is on at the instant t.
@@ -27,4 +27,4 @@ Room own other g = (own.budget ≤ gap own.start other.start g) × (gap own.star
 -- the greatest common divisor of their periods.
 abbrev pub NeverMeetRule : Type 0
 NeverMeetRule =
-    (a b : Slot) (g : ℕ) → Gcd a.period b.period g → (Meet (Occupies a) (Occupies b) → ⊥) ↔ Room a b g
+    (a b : Slot) (g : ℕ) → IsGcd a.period b.period g → (Meet (Occupies a) (Occupies b) → ⊥) ↔ Room a b g

@@ -10,30 +10,32 @@ fn gap_between(from: u16, to: u16, circle: u32) -> u32
     ensures value { result ≡ gap from to circle }
     ensures within { result < circle }
 {
-    let circle = circle as u64;
-    let back = circle - from as u64 % circle;
-    ((to as u64 + back) % circle) as u32
+    let circle = u64::from(circle);
+    let back = circle - u64::from(from) % circle;
+    ((u64::from(to) + back) % circle) as u32
 }
 
-// Whether the circle has room for each slot before the other comes.
-pub(crate) fn leaves_room(own: &Slot, other: &Slot, circle: u32) -> bool
-    requires positive { 1 ≤ circle }
-    ensures room { T result ↔ Room own.now other.now circle }
-{
-    let gap = gap_between(own.start, other.start, circle);
-    own.budget as u32 <= gap && other.budget as u32 <= circle - gap
-}
+impl Slot {
+    // Whether the circle has room for each slot before the other comes.
+    pub(crate) fn leaves_room(&self, other: &Slot, circle: u32) -> bool
+        requires positive { 1 ≤ circle }
+        ensures room { T result ↔ Room self.now other.now circle }
+    {
+        let gap = gap_between(self.start, other.start, circle);
+        u32::from(self.budget) <= gap && u32::from(other.budget) <= circle - gap
+    }
 
-// How far on `own` must start so as to begin past the end of `other`, if it meets it, where the circle can hold both.
-pub(crate) fn past_end(own: &Slot, other: &Slot, circle: u32) -> u32
-    requires room { own.now.budget + other.now.budget ≤ circle }
-    ensures value { result ≡ past_end own.now other.now circle }
-{
-    let gap = gap_between(own.start, other.start, circle);
-    let budget = other.budget as u32;
-    if gap < own.budget as u32 {
-        gap + budget
-    } else {
-        budget.saturating_sub(circle - gap)
+    // How far on the slot must start so as to begin past the end of `other`, if it meets it, where the circle can hold both.
+    pub(crate) fn past_end(&self, other: &Slot, circle: u32) -> u32
+        requires room { self.now.budget + other.now.budget ≤ circle }
+        ensures value { result ≡ past_end self.now other.now circle }
+    {
+        let gap = gap_between(self.start, other.start, circle);
+        let budget = u32::from(other.budget);
+        if gap < u32::from(self.budget) {
+            gap + budget
+        } else {
+            budget.saturating_sub(circle - gap)
+        }
     }
 }

@@ -8,6 +8,4 @@ mod meeting;
 mod slot;
 
 pub use divisor::gcd;
-pub use jump::hop;
-pub use meeting::meets;
 pub use slot::Slot;

@@ -1,5 +1,5 @@
 use Rattle.std.proofs.Common.{◌<◌, ◌≢◌, length, get_or, subst, arith, length-set, get_or-set_other, get_or-set_same, below_more}
-use Rattle.slots.specs.Divisors.{Gcd}
+use Rattle.std.specs.Int.{IsGcd}
 use Rattle.planner.specs.declared.row.Row.{Row}
 use Rattle.planner.specs.Rows.{no_row}
 use Rattle.planner.proofs.Places.{nth_inside, nth_is}
@@ -18,6 +18,6 @@ returns c =
     record {
       each = λ i row e.
           let l = nth_inside c.args.placed.now i row e in
-          let F : Row → Type 0 = λ x. Gcd c.args.task.now.period x.task.period (get_or c.loop-i.found i 0) in
+          let F : Row → Type 0 = λ x. IsGcd c.args.task.now.period x.task.period (get_or c.loop-i.found i 0) in
           subst F (nth_is c.args.placed.now i no_row row e) (c.loop-i.invariant.1 i (omega arith));
     }

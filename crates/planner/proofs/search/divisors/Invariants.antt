@@ -1,5 +1,5 @@
 use Rattle.std.proofs.Common.{◌≡◌, ℕ, ◌<◌, length, get_or}
-use Rattle.slots.specs.Divisors.{Gcd}
+use Rattle.std.specs.Int.{IsGcd}
 use Rattle.planner.specs.Rows.{no_row}
 use Rattle.planner.proofs.search.divisors.Given as goal
 
@@ -7,4 +7,4 @@ use Rattle.planner.proofs.search.divisors.Given as goal
 abbrev pub invariant-loop-i : goal.invariant-loop-i
 invariant-loop-i l =
     (length l.found ≡ 64)
-    × ((k : ℕ) → k < l.i → Gcd l.task.period (get_or l.placed k no_row).task.period (get_or l.found k 0))
+    × ((k : ℕ) → k < l.i → IsGcd l.task.period (get_or l.placed k no_row).task.period (get_or l.found k 0))
