@@ -1,14 +1,16 @@
 -- The steps of a try of the controllers in an order.
-use Rattle.std.proofs.Common.{◌≡◌, ℕ, zero, suc, ◌+◌, ◌<◌, ◌≤◌, List, length, Some, None, sym, refl, subst, arith}
-use native.Mathlib.Decide.{dec_le}
+use Rattle.std.proofs.Common.{◌≡◌, ℕ, zero, suc, ◌<◌, ◌≤◌, List, get_or, Some, None, Option, sym, refl, subst, arith}
 use Rattle.std.specs.List.{slice_get}
-use Rattle.policies.specs.Places.{name_passed, place_below}
+use Rattle.std.specs.Option.{MatchOption}
+use Rattle.std.proofs.lemmas.Option.{slice_get-get_or, slice_get_within}
 use Rattle.policies.specs.Orders.{Arrangement}
 use Rattle.tasks.specs.Tasks.{Belongs}
 use Rattle.tasks.specs.declared.task.Task.{Task}
-use Rattle.planner.specs.Placing.{Clear, Least, PlacedAs, PlacedOn, Takes}
+use Rattle.planner.specs.Placing.{Clear, Least, PlacedOn}
 use Rattle.planner.specs.Rows.{no_start, start}
+use Rattle.planner.specs.Searching.{ChosenAs, TakenAs}
 use Rattle.planner.specs.declared.row.Row.{Row}
+use Rattle.planner.proofs.FirstMapped.{FirstBelow}
 
 module _ (c : ℕ) (placed : List Row) (task : Task) (everyday critical : ℕ) where
   -- the row that a try of the controller makes
@@ -33,41 +35,35 @@ module _ (c : ℕ) (placed : List Row) (task : Task) (everyday critical : ℕ) w
       blank (suc zero) l = none l
       blank (suc (suc n)) l = refl
 
--- a name of the order stands within it
-pub place_inside : (order : List ℕ) (k c : ℕ) → Some c ≡ slice_get order k → k < length order
-place_inside order k c at = place_below order k c (sym at)
+-- what the place k of an order gives: what a try of the controller there answers, and none past its end
+abbrev pub TriedAt : List ℕ → List Row → Task → ℕ → Option Row → Type 0
+TriedAt order placed task k r = MatchOption (slice_get order k) (r ≡ None) (λ c. TakenAs c placed task r)
 
--- none of the first n in the order takes the task
-abbrev pub Refused : List ℕ → List Row → Task → ℕ → Type 0
-Refused order placed task n = (j d : ℕ) → j < n → slice_get order j ≡ Some d → Takes d placed task → ⊥
-
-module _ (order : List ℕ) (placed : List Row) (task : Task) (k c : ℕ) where
-  pub chosen : (row : Row) → Some c ≡ slice_get order k → Refused order placed task k → PlacedOn c placed task row → PlacedAs order placed task row
-  chosen row at before on =
-      let At : ℕ → Type 0 = λ d. (Some d ≡ slice_get order k) × PlacedOn d placed task row in
-      let (here, Placed-on) = subst At (sym on.there) (at, on) in
+module _ (m : ℕ) (order : List ℕ) (placed : List Row) (task : Task) (arranged : Arrangement m order) where
+  -- what the first place that gives a row gives, where the order leaves out no controller
+  pub chosen : (r : Option Row) → FirstBelow (TriedAt order placed task) m r → ChosenAs m order placed task r
+  chosen None none = λ c l.
+      let (k, at) = arranged.whole c l in
+      rw at at (none k (omega (arith, slice_get_within order k c at, arranged.long)))
+  chosen (Some row) (k, l, here, before) =
+      let at : slice_get order k ≡ Some (get_or order k 0) = slice_get-get_or order k 0 (omega (arith, arranged.long)) in
+      let on : PlacedOn (get_or order k 0) placed task row = rw at at here in
+      let At : ℕ → Type 0 = λ c. (slice_get order k ≡ Some c) × PlacedOn c placed task row in
+      let (there, placed_on) = subst At (sym on.there) (at, on) in
       record {
-        first = (k, sym here, (λ mode b. (start row mode, (Placed-on.starts mode b).0)), before);
-        on = Placed-on;
+        first = (k, there, (λ mode b. (start row mode, (placed_on.starts mode b).0)), λ j c h e. rw e at (before j h));
+        on = placed_on;
       }
 
-  pub refused_more : Some c ≡ slice_get order k → Refused order placed task k → (Takes c placed task → ⊥) → Refused order placed task (k + 1)
-  refused_more at before no' j d l e takes = go (dec_le k j)
-    where
-      go : Dec (k ≤ j) → ⊥
-      go (no h) = before j d (omega arith) e takes
-      go (yes h) =
-          let same : j ≡ k = omega arith in
-          let there : slice_get order k ≡ Some d = subst (λ (i : ℕ). slice_get order i ≡ Some d) same e in
-          let is : d ≡ c = cc in
-          no' (subst (λ (x : ℕ). Takes x placed task) is takes)
-
--- past the end of an order that leaves out no controller, none takes it
-pub refused_all
-    : (m : ℕ) (order : List ℕ) (placed : List Row) (task : Task) (k : ℕ)
-    → Arrangement m order
-    → None ≡ slice_get order k
-    → Refused order placed task k → (c : ℕ) → c < m → Takes c placed task → ⊥
-refused_all m order placed task k arranged past before c l =
-    let (j, at) = arranged.whole c l in
-    before j c (name_passed order k (sym past) j c at) at
+-- what was answered for a task and rows, of those that they are
+pub answered
+    : (m : ℕ) (order : ℕ → List ℕ) {placed rows : List Row} {task t : Task} {r s : Option Row}
+    → ChosenAs m (order task.level) placed task r
+    → placed ≡ rows
+    → task ≡ t
+    → r ≡ s → ChosenAs m (order t.level) rows t s
+answered m order {placed} {rows} {task} {t} {r} {s} h p e q =
+    let A : Option Row → Type 0 = λ x. ChosenAs m (order t.level) rows t x in
+    let B : Task → Type 0 = λ x. ChosenAs m (order x.level) rows x r in
+    let C : List Row → Type 0 = λ x. ChosenAs m (order task.level) x task r in
+    subst A q (subst B e (subst C p h))

@@ -2,6 +2,7 @@
 pub mod Standing
 pub mod Places
 pub mod Pushing
+pub mod FirstMapped
 pub mod Choosing
 pub mod Rows
 pub mod Unique

@@ -1,14 +1,15 @@
 -- Planning gives one answer.
-use Rattle.std.proofs.Common.{◌≡◌, ℕ, ◌<◌, ◌↔◌, List, take, Ok, Err, refl, ap, subst, arith}
+use Rattle.std.proofs.Common.{◌≡◌, ℕ, ◌<◌, ◌↔◌, List, length, take, Ok, Err, refl, ap, subst, arith}
 use Rattle.std.proofs.lemmas.List.{length-take-le}
+use Rattle.std.proofs.lemmas.Option.{slice_get_within}
 use Rattle.policies.specs.Policies.{Lawful, Means}
 use Rattle.tasks.specs.declared.fault.PlanFault.TheVariants.{Size, Counts, Range, NoController}
 use Rattle.tasks.specs.declared.task.Task.{Task}
-use Rattle.planner.specs.Outcomes.{Answer, Gives}
-use Rattle.planner.specs.Planning.{Placed, StuckAt}
+use Rattle.planner.specs.Outcomes.{Answer, Gives, Sizes}
+use Rattle.planner.specs.Planning.{Placed, PlacesAll, StuckAt}
 use Rattle.planner.specs.Searching.{EachInRange, FirstOut}
 use Rattle.planner.specs.declared.row.Row.{Row}
-use Rattle.planner.proofs.Places.{nth_inside, nth_take}
+use Rattle.planner.proofs.Places.{nth_take}
 use Rattle.planner.proofs.Unique.{neither_below, stuck_not_placed}
 
 out_not_in : (tasks : List Task) (i : ℕ) → FirstOut tasks i → EachInRange tasks → ⊥
@@ -22,11 +23,11 @@ module _ {P : Type 0} (means : Means P) (law : Lawful means) (m : ℕ) (tasks : 
   placed_stuck : means.count p ≡ m → (rows ss : List Row) (i : ℕ) → Placed means p tasks rows → StuckAt means m p tasks i ss → ⊥
   placed_stuck count rows ss i all stuck =
       stuck_not_placed means p law m count tasks tasks i ss rows stuck all
-      (nth_inside tasks i stuck.task stuck.here) (λ j h. refl)
+      (slice_get_within tasks i stuck.task stuck.here) (λ j h. refl)
 
   stuck_before : means.count p ≡ m → (rows ss : List Row) (i j : ℕ) → StuckAt means m p tasks i rows → StuckAt means m p tasks j ss → i < j → ⊥
   stuck_before count rows ss i j x y l =
-      let inside = nth_inside tasks j y.task y.here in
+      let inside = slice_get_within tasks j y.task y.here in
       let front = length-take-le j tasks (omega arith) in
       stuck_not_placed means p law m count tasks (take j tasks) i rows ss x y.before (omega arith)
       (λ k h. nth_take j tasks k (omega arith))
@@ -68,3 +69,19 @@ module _ {P : Type 0} (means : Means P) (law : Lawful means) (m : ℕ) (tasks : 
   -- the answer given is the only one
   pub exactly : (r : Answer) → Given r → (a : Answer) → (r ≡ a) ↔ Given a
   exactly r given a = ((λ e. subst Given e given), λ other. one_answer r a given other)
+
+  -- what placing the tasks answers is what planning gives, where nothing else stands against it
+  pub given
+      : (r : Answer) (table : List Row) (q : P)
+      → Sizes m tasks
+      → means.count p ≡ m
+      → EachInRange tasks
+      → PlacesAll means p tasks r table q
+      → Given r
+  given (Ok _) table q sizes count range places = (sizes, count, range, (take (length tasks) table, places.0))
+  given (Err (NoController i)) table q sizes count range places =
+      let Stuck : ℕ → Type 0 = λ n. StuckAt means n p tasks i (take i table) in
+      (sizes, count, range, (take i table, subst Stuck count places.0))
+  given (Err Size) table q sizes count range places = absurd places
+  given (Err Counts) table q sizes count range places = absurd places
+  given (Err (Range i)) table q sizes count range places = absurd places

@@ -3,7 +3,7 @@ use Rattle.std.proofs.Common.{◌≡◌, ℕ, zero, suc, ◌+◌, ◌<◌, ◌�
 use native.Mathlib.Decide.{dec_le}
 use Rattle.std.specs.List.{slice_get}
 use Rattle.std.proofs.lemmas.List.{length_push, length-take, get_or_push, get_or_append_left}
-use Rattle.std.proofs.lemmas.Option.{slice_get-get_or, slice_get_past}
+use Rattle.std.proofs.lemmas.Option.{get_or_from_slice_get, slice_get-get_or, slice_get_within}
 use Rattle.tasks.specs.declared.task.Task.{Task}
 use Rattle.planner.specs.Rows.{no_row}
 
@@ -11,17 +11,12 @@ use Rattle.planner.specs.Rows.{no_row}
 abbrev pub no_task : Task
 no_task = no_row.task
 
--- where something stands there is a place
+-- std's lemmas by the names that the crates above use
 pub nth_inside : {X : Type 0} (xs : List X) (k : ℕ) (x : X) → slice_get xs k ≡ Some x → k < length xs
-nth_inside xs k x e = go (dec_le (length xs) k)
-  where
-    go : Dec (length xs ≤ k) → k < length xs
-    go (yes h) = let past = slice_get_past xs k h in let z : ◌≡◌ {A = ℕ} 0 1 = cc in absurd (omega arith)
-    go (no h) = omega arith
+nth_inside xs k x e = slice_get_within xs k x e
 
--- and what is read there is what stands there
 pub nth_is : {X : Type 0} (xs : List X) (k : ℕ) (d x : X) → slice_get xs k ≡ Some x → get_or xs k d ≡ x
-nth_is xs k d x e = let here = slice_get-get_or xs k d (nth_inside xs k x e) in cc
+nth_is xs k d x e = get_or_from_slice_get xs k x d e
 
 -- what stands in a list with one more at its end
 pub nth_push
@@ -31,10 +26,10 @@ pub nth_push
 nth_push xs y i x e = go (dec_le (length xs) i)
   where
     inside : i < length xs + 1
-    inside = omega (arith, nth_inside (xs ++ y ∷ []) i x e, length_push xs y)
+    inside = omega (arith, slice_get_within (xs ++ y ∷ []) i x e, length_push xs y)
 
     is : get_or (xs ++ y ∷ []) i x ≡ x
-    is = nth_is (xs ++ y ∷ []) i x x e
+    is = get_or_from_slice_get (xs ++ y ∷ []) i x x e
 
     go : Dec (length xs ≤ i) → ((i < length xs) × (slice_get xs i ≡ Some x)) ⊎ ((i ≡ length xs) × (y ≡ x))
     go (yes h) =
@@ -57,5 +52,5 @@ nth_take (suc n) (x ∷ xs) (suc k) h = nth_take n xs k (omega arith)
 -- and nothing else
 pub nth_front : {X : Type 0} (n : ℕ) (xs : List X) (k : ℕ) (x : X) → slice_get (take n xs) k ≡ Some x → slice_get xs k ≡ Some x
 nth_front n xs k x e =
-    let l : k < n = omega (arith, nth_inside (take n xs) k x e, length-take n xs) in
+    let l : k < n = omega (arith, slice_get_within (take n xs) k x e, length-take n xs) in
     sym (nth_take n xs k l) ∙ e

@@ -1,8 +1,8 @@
 -- Rows placed one after the other.
 use Rattle.std.proofs.Common.{◌≡◌, ℕ, ◌+◌, ◌-◌, ◌<◌, ◌≤◌, ◌⊎◌, List, [], ◌∷◌, ◌++◌, length, get_or, take, drop, set, replicate, Some, sym, refl, ap, ◌∙◌, subst, inl, inr, arith}
 use Rattle.std.specs.List.{slice_get}
-use Rattle.std.proofs.lemmas.List.{length_push, take-append-le, take_at, take_all, take-append-drop, take_more, take_more_set, drop-replicate}
-use Rattle.std.proofs.lemmas.Option.{slice_get-get_or}
+use Rattle.std.proofs.lemmas.List.{length_push, take-append-le, take_at, take-append-drop, take_more, take_more_set, drop-replicate}
+use Rattle.std.proofs.lemmas.Option.{slice_get-get_or, slice_get_within}
 use Rattle.slots.specs.Slots.{On, Meet}
 use Rattle.policies.specs.Policies.{Lawful, Means}
 use Rattle.tasks.specs.Tasks.{Belongs, InRange, budget}
@@ -13,7 +13,7 @@ use Rattle.planner.specs.Rows.{Occupies, Sound, no_row, no_start, start}
 use Rattle.planner.specs.Searching.{EachInRange}
 use Rattle.planner.specs.Standing.{EachOn, EachSound, NoneMeet}
 use Rattle.planner.specs.declared.row.Row.{Row}
-use Rattle.planner.proofs.Places.{no_task, nth_inside, nth_push, nth_take}
+use Rattle.planner.proofs.Places.{no_task, nth_push, nth_take}
 
 -- a table whose places from n on are as in a blank one
 pub blank_rest : (n : ℕ) (table : List Row) → drop n table ≡ drop n (replicate 64 no_row) → table ≡ take n table ++ replicate (64 - n) no_row
@@ -82,7 +82,7 @@ module _ {P : Type 0} (means : Means P) (p : P) where
       → slice_get rows i ≡ Some row
       → (task : Task) × (slice_get tasks i ≡ Some task) × As (take i rows) task row
   placed_at tasks rows i row all e =
-      let l : i < length tasks = omega (arith, nth_inside rows i row e, all.long) in
+      let l : i < length tasks = omega (arith, slice_get_within rows i row e, all.long) in
       let at = slice_get-get_or tasks i no_task l in
       (get_or tasks i no_task, at, all.each i (get_or tasks i no_task) row at e)
 
@@ -135,15 +135,3 @@ module _ {P : Type 0} (means : Means P) (p : P) where
             ∙ (ap (λ t. means.told (told_of means p (take i table)) t.level row.controller) (sym as'.on.holds)
             ∙ (sym (told_push (take i table) means p row) ∙ ap (told_of means p) (sym grown)))),
       )
-
-  -- the table is full
-  pub finish
-      : (tasks : List Task) (table : List Row) (i : ℕ) (q : P)
-      → i ≡ length tasks
-      → Placed means p (take i tasks) (take i table)
-      → q ≡ told_of means p (take i table)
-      → Placed means p tasks (take (length tasks) table) × (q ≡ told_of means p (take (length tasks) table))
-  finish tasks table i q is all told' =
-      let F : List Task → Type 0 = λ ts. Placed means p ts (take i table) in
-      let G : ℕ → Type 0 = λ n. Placed means p tasks (take n table) × (q ≡ told_of means p (take n table)) in
-      subst G is (subst F (take_all i tasks (omega arith)) all, told')

@@ -3,14 +3,14 @@ use Rattle.std.proofs.Common.{◌≡◌, ℕ, zero, suc, ◌<◌, ◌≤◌, Lis
 use native.Mathlib.Decide.{dec_le}
 use Rattle.std.specs.List.{slice_get}
 use Rattle.std.proofs.lemmas.List.{take_more_same, take_all, length-take-le}
-use Rattle.std.proofs.lemmas.Option.{slice_get-get_or}
+use Rattle.std.proofs.lemmas.Option.{slice_get-get_or, slice_get_within}
 use Rattle.policies.specs.Policies.{Lawful, Means}
 use Rattle.tasks.specs.declared.task.Task.{Task}
 use Rattle.planner.specs.Placing.{Clear, FirstIn, Least, PlacedAs, PlacedOn, Takes}
 use Rattle.planner.specs.Planning.{Placed, StuckAt, told_of}
 use Rattle.planner.specs.declared.row.Row.{Row}
 use Rattle.planner.specs.Rows.{no_row}
-use Rattle.planner.proofs.Places.{no_task, nth_inside, nth_take}
+use Rattle.planner.proofs.Places.{no_task, nth_take}
 use Rattle.planner.proofs.Rows.{As, placed_each_on}
 
 -- two numbers of which neither is below the other
@@ -109,7 +109,7 @@ module _ {P : Type 0} (means : Means P) (p : P) where
       → i < length us
       → ((j : ℕ) → j ≤ i → slice_get us j ≡ slice_get tasks j) → ⊥
   stuck_not_placed law m count tasks us i ss rows stuck all l same =
-      let inside : i < length tasks = nth_inside tasks i stuck.task stuck.here in
+      let inside : i < length tasks = slice_get_within tasks i stuck.task stuck.here in
       let front = length-take-le i tasks (omega arith) in
       let long : length ss ≡ i = stuck.before.long ∙ front in
       let meet = agree i (take i tasks) us ss rows stuck.before all (omega arith) (omega arith)

@@ -1,7 +1,9 @@
 -- How tasks are placed one after the other, by a policy that is told of each row.
-use Rattle.std.specs.Prelude.{◌≡◌, ℕ, ◌<◌, List, [], ◌∷◌, length, take, Some, None, Option}
+use Rattle.std.specs.Prelude.{◌≡◌, ℕ, ◌<◌, List, [], ◌∷◌, length, take, Some, Ok, Err, Result}
 use Rattle.std.specs.List.{slice_get}
 use Rattle.policies.specs.Policies.{Means}
+use Rattle.tasks.specs.declared.fault.PlanFault.{PlanFault}
+use Rattle.tasks.specs.declared.fault.PlanFault.TheVariants.{NoController}
 use Rattle.tasks.specs.declared.task.Task.{Task}
 use Rattle.planner.specs.Placing.{PlacedAs, Takes}
 use Rattle.planner.specs.declared.row.Row.{Row}
@@ -30,10 +32,11 @@ pub record StuckAt {P : Type 0} (means : Means P) (m : ℕ) (p : P) (tasks : Lis
 
 -- what placing one task after the other answers, and leaves: all are placed, or it is stuck at the row answered. The table
 -- then begins with the rows placed, and the policy p' was told of these.
-abbrev pub PlacesAll : {P : Type 0} → Means P → P → List Task → Option ℕ → List Row → P → Type 0
-PlacesAll means p tasks None table p' =
+abbrev pub PlacesAll : {P : Type 0} → Means P → P → List Task → Result (Unit {0}) PlanFault → List Row → P → Type 0
+PlacesAll means p tasks (Ok _) table p' =
     Placed means p tasks (take (length tasks) table)
     × (p' ≡ told_of means p (take (length tasks) table))
-PlacesAll means p tasks (Some i) table p' =
+PlacesAll means p tasks (Err (NoController i)) table p' =
     StuckAt means (means.count p) p tasks i (take i table)
     × (p' ≡ told_of means p (take i table))
+PlacesAll means p tasks (Err _) table p' = ⊥

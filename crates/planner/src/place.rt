@@ -1,61 +1,33 @@
 // The controller and the starts of a task beside the rows placed before it.
-ghost use Rattle.std.specs.Prelude.{◌≤◌, length};
-ghost use Rattle.planner.specs.Searching.{ChosenAs, Divide, FirstOutIf, TakenAs};
-ghost use Rattle.planner.specs.Standing.{EachSound};
-ghost use Rattle.tasks.specs.Tasks.{InRange};
+ghost use Rattle.planner.specs.Searching.{ChosenAs, TakenAs};
 
 use crate::row::{NO_START, Row};
-use crate::search::{divisors, least_start};
+use crate::search::Search;
 use policies::Policy;
-use tasks::{Mode, PerMode, Task};
+use tasks::{Mode, PerMode};
 
-// The row for the task on this controller, if the controller takes it.
-fn try_controller(controller: u8, placed: &[Row], divisors: &[u32; 64], task: &Task) -> Option<Row>
-    requires range { InRange task.now }
-    requires short { length placed.now ≤ 64 }
-    requires sound { EachSound placed.now }
-    requires divide { Divide divisors.now placed.now task.now }
-    ensures taken { TakenAs controller placed.now task.now result }
-{
-    let everyday = least_start(controller, Mode::Everyday, placed, divisors, task)?;
-    let critical = if task.belongs(Mode::Critical) {
-        least_start(controller, Mode::Critical, placed, divisors, task)?
-    } else {
-        NO_START
-    };
-    Some(Row {
-        task: *task,
-        controller,
-        starts: PerMode { everyday, critical },
-    })
-}
-
-// The row for the task on the first controller in the policy's order that takes it.
-pub(crate) fn choose<P: Policy>(policy: &P, placed: &[Row], task: &Task) -> Option<Row>
-    requires range { InRange task.now }
-    requires short { length placed.now ≤ 64 }
-    requires sound { EachSound placed.now }
-    ensures chosen { ChosenAs (P.Policy.meaning.count policy.now) (P.Policy.meaning.order policy.now task.now.level) placed.now task.now result }
-{
-    let divisors = divisors(placed, task);
-    let mut k = 0;
-    while let Some(controller) = policy.place(task.level, k) {
-        if let Some(row) = try_controller(controller, placed, &divisors, task) {
-            return Some(row);
-        }
-        k += 1;
+impl Search<'_> {
+    // The row for the task on this controller, if the controller takes it.
+    fn on(&self, controller: u8) -> Option<Row>
+        ensures taken { TakenAs controller self.now.placed.now self.now.task.now result }
+    {
+        let everyday = self.least_start(controller, Mode::Everyday)?;
+        let critical = if self.task.belongs(Mode::Critical) {
+            self.least_start(controller, Mode::Critical)?
+        } else {
+            NO_START
+        };
+        Some(Row {
+            task: *self.task,
+            controller,
+            starts: PerMode { everyday, critical },
+        })
     }
-    None
-}
 
-// The first task that is out of range.
-pub(crate) fn first_out(tasks: &[Task]) -> Option<usize>
-    ensures first { FirstOutIf tasks.now result }
-{
-    for (i, task) in tasks.iter().enumerate() {
-        if !task.in_range() {
-            return Some(i);
-        }
+    // The row for the task on the first controller in the policy's order that takes it.
+    pub(crate) fn choose<P: Policy>(&self, policy: &P) -> Option<Row>
+        ensures chosen { ChosenAs (P.Policy.meaning.count policy.now) (P.Policy.meaning.order policy.now self.now.task.now.level) self.now.placed.now self.now.task.now result }
+    {
+        (0..policy.count()).find_map(|k| self.on(policy.place(self.task.level, k)?))
     }
-    None
 }

@@ -2,30 +2,38 @@
 ghost use Rattle.std.specs.Prelude.{◌≡◌, ◌≤◌, ◌↔◌, length, drop};
 ghost use Rattle.planner.specs.Outcomes.{Answer, Gives, PlanAfter, PolicyAfter};
 ghost use Rattle.planner.specs.Planning.{PlacesAll};
-ghost use Rattle.planner.specs.Searching.{EachInRange};
+ghost use Rattle.planner.specs.Searching.{EachInRange, FirstOutIf};
 
-use crate::place::{choose, first_out};
 use crate::plans::Plan;
-use crate::row::{BLANK, Row};
+use crate::row::Row;
+use crate::search::Search;
 use policies::Policy;
 use tasks::{PlanFault, Task};
 
-// Places the tasks one after the other, and answers the row that no controller takes, if there is one.
-fn place_all<P: Policy>(tasks: &[Task], policy: &mut P, table: &mut [Row]) -> Option<usize>
+// The first task that is out of range.
+fn first_out(tasks: &[Task]) -> Option<usize>
+    ensures first { FirstOutIf tasks.now result }
+{
+    tasks.iter().position(|task| !task.in_range())
+}
+
+// Places the tasks one after the other, as long as a controller takes each. The rows placed stand in the table's first places.
+fn place_all<P: Policy>(tasks: &[Task], policy: &mut P, table: &mut [Row]) -> Result<(), PlanFault>
     requires range { EachInRange tasks.now }
     requires short { length tasks.now ≤ 64 }
     requires whole { length table.old ≡ 64 }
     ensures places { PlacesAll P.Policy.meaning policy.old tasks.now result table.new policy.new }
     ensures rest { drop (length tasks.now) table.new ≡ drop (length tasks.now) table.old }
 {
+    // By index: each row is placed beside those before it in the same table.
     for (i, task) in tasks.iter().enumerate() {
-        let Some(row) = choose(policy, &table[..i], task) else {
-            return Some(i);
-        };
+        let row = Search::new(&table[..i], task)
+            .choose(policy)
+            .ok_or(PlanFault::NoController { row: i })?;
         policy.tell(task.level, row.controller);
         table[i] = row;
     }
-    None
+    Ok(())
 }
 
 // Plans the tasks for `m` controllers. An accepted plan replaces the old one whole; a refusal leaves it as it was, and the
@@ -40,7 +48,7 @@ pub fn plan<P: Policy>(
     ensures plan { PlanAfter P.Policy.meaning m tasks.now policy.old result plan.old plan.new }
     ensures policy { PolicyAfter P.Policy.meaning m tasks.now policy.old result plan.new policy.new }
 {
-    if m < 1 || m > 8 || tasks.len() > 64 {
+    if !(1..=8).contains(&m) || tasks.len() > 64 {
         return Err(PlanFault::Size);
     }
     if policy.count() != m {
@@ -49,10 +57,8 @@ pub fn plan<P: Policy>(
     if let Some(row) = first_out(tasks) {
         return Err(PlanFault::Range { row });
     }
-    let mut table = [BLANK; 64];
-    if let Some(row) = place_all(tasks, policy, &mut table) {
-        return Err(PlanFault::NoController { row });
-    }
+    let mut table = [Row::default(); 64];
+    place_all(tasks, policy, &mut table)?;
     *plan = Plan {
         controllers: m,
         count: tasks.len() as u8,

@@ -4,7 +4,7 @@ ghost use Rattle.planner.specs.Rows.{no_row};
 ghost use Rattle.planner.specs.Standing.{Stands};
 
 use crate::plans::Plan;
-use crate::row::{BLANK, Row};
+use crate::row::Row;
 
 impl Plan {
     // A plan not yet filled.
@@ -16,7 +16,7 @@ impl Plan {
         Plan {
             controllers: 0,
             count: 0,
-            table: [BLANK; 64],
+            table: [Row::default(); 64],
         }
     }
 
@@ -32,6 +32,6 @@ impl Plan {
         ensures value { result.now ≡ rows_of self.now }
         ensures stands { Stands self.now.controllers (rows_of self.now) }
     {
-        &self.table[..self.count as usize]
+        &self.table[..usize::from(self.count)]
     }
 }

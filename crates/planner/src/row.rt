@@ -4,35 +4,17 @@ ghost use Rattle.tasks.specs.Modes.{number};
 
 use tasks::{Mode, PerMode, Task};
 
-// The start in a mode that the task does not belong to.
+// The start in a mode that the task does not belong to. A number and no Option, since the appendix writes FFFF there and a
+// row answers a start in each mode.
 pub const NO_START: u16 = 65535;
 
-// A task with its controller and its starts.
-#[derive(Clone, Copy)]
+// A task with its controller and its starts. The default stands where no row is.
+#[derive(Clone, Copy, Default)]
 pub struct Row {
     pub task: Task,
     pub controller: u8,
     pub starts: PerMode,
 }
-
-// What stands where no row is.
-pub(crate) const BLANK: Row = Row {
-    task: Task {
-        id: 0,
-        level: 0,
-        period: 0,
-        deadline: 0,
-        budgets: PerMode {
-            everyday: 0,
-            critical: 0,
-        },
-    },
-    controller: 0,
-    starts: PerMode {
-        everyday: 0,
-        critical: 0,
-    },
-};
 
 impl Row {
     // The start in this mode.

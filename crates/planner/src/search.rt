@@ -1,10 +1,10 @@
 // The least start of a task beside the rows placed before it.
-ghost use Rattle.std.specs.Prelude.{◌+◌, ◌≤◌, length};
+ghost use Rattle.std.specs.Prelude.{◌≡◌, ◌+◌, ◌≤◌, length};
+ghost use Rattle.std.specs.Int.{IsGcd};
 ghost use Rattle.planner.specs.Placing.{Clear};
 ghost use Rattle.planner.specs.Rows.{Sound};
 ghost use Rattle.planner.specs.Searching.{Divide, LeastIf, Pushes};
 ghost use Rattle.planner.specs.Standing.{EachSound};
-ghost use Rattle.std.specs.Int.{IsGcd};
 ghost use Rattle.tasks.specs.Modes.{number};
 ghost use Rattle.tasks.specs.Tasks.{Belongs, InRange, budget};
 
@@ -12,75 +12,85 @@ use crate::row::Row;
 use slots::{Slot, gcd};
 use tasks::{Mode, Task};
 
-// For each placed row the greatest common divisor of the task's period and its own: found once, for every controller, mode
-// and start that is then tried.
-pub(crate) fn divisors(placed: &[Row], task: &Task) -> [u32; 64]
-    requires short { length placed.now ≤ 64 }
-    ensures each { Divide result placed.now task.now }
-{
-    let mut found = [0; 64];
-    for (i, row) in placed.iter().enumerate() {
-        found[i] = gcd(task.period as u32, row.task.period as u32);
-    }
-    found
+// A task that is to be placed beside the rows placed before it.
+#[derive(Drop)]
+pub(crate) struct Search<'a> {
+    pub(crate) placed: &'a [Row],
+    pub(crate) task: &'a Task,
+    // For each placed row the greatest common divisor of the task's period and its own: found once, for every controller, mode
+    // and start that is then tried.
+    divisors: [u32; 64],
+    ghost range: { InRange task.now },
+    ghost short: { length placed.now ≤ length divisors },
+    ghost sound: { EachSound placed.now },
+    ghost divide: { Divide divisors placed.now task.now },
 }
 
-// How far on the row pushes the task's start on this controller and in this mode: 0 where they do not meet from here, and a
-// whole period, so past the deadline, where they meet from every start.
-fn push(controller: u8, mode: Mode, task: &Task, start: u16, row: &Row, divisor: u32) -> u32
-    requires range { InRange task.now }
-    requires belongs { Belongs task.now (number mode) }
-    requires fits { start + budget task.now (number mode) ≤ task.now.deadline }
-    requires sound { Sound row.now }
-    requires divides { IsGcd task.now.period row.now.task.period divisor }
-    ensures pushes { Pushes controller (number mode) task.now start row.now result }
-{
-    if row.controller != controller || !row.task.belongs(mode) {
-        return 0;
-    }
-    let own = Slot {
-        start,
-        budget: task.budget(mode),
-        period: task.period,
-    };
-    let other = Slot {
-        start: row.start(mode),
-        budget: row.task.budget(mode),
-        period: row.task.period,
-    };
-    match own.hop(&other, divisor) {
-        Some(further) => further,
-        None => task.period as u32,
-    }
-}
-
-// The least start from which the task ends within its deadline and meets no placed row on this controller in this mode.
-pub(crate) fn least_start(
-    controller: u8,
-    mode: Mode,
-    placed: &[Row],
-    divisors: &[u32; 64],
-    task: &Task,
-) -> Option<u16>
-    requires range { InRange task.now }
-    requires belongs { Belongs task.now (number mode) }
-    requires short { length placed.now ≤ 64 }
-    requires sound { EachSound placed.now }
-    requires divide { Divide divisors.now placed.now task.now }
-    ensures least { LeastIf (Clear controller (number mode) placed.now task.now) result }
-{
-    let last = (task.deadline - task.budget(mode)) as u32;
-    let mut next = 0;
-    'starts: while next <= last {
-        let start = next;
+impl<'a> Search<'a> {
+    // The search, with the divisors found.
+    pub(crate) fn new(placed: &'a [Row], task: &'a Task) -> Search<'a>
+        requires range { InRange task.now }
+        requires short { length placed.now ≤ 64 }
+        requires sound { EachSound placed.now }
+        ensures placed { result.placed.now ≡ placed.now }
+        ensures task { result.task.now ≡ task.now }
+    {
+        let mut divisors = [0; 64];
+        // By index: of an array written through `iter_mut().zip(..)` a proof knows nothing, and `array::from_fn` was not proved.
         for (i, row) in placed.iter().enumerate() {
-            let further = push(controller, mode, task, start as u16, row, divisors[i]);
-            if further > 0 {
-                next = start + further;
-                continue 'starts;
-            }
+            divisors[i] = gcd(u32::from(task.period), u32::from(row.task.period));
         }
-        return Some(start as u16);
+        Search {
+            placed,
+            task,
+            divisors,
+        }
     }
-    None
+
+    // How far on the row pushes the task's start on this controller and in this mode: 0 where they do not meet from here, and a
+    // whole period, so past the deadline, where they meet from every start.
+    fn push(&self, controller: u8, mode: Mode, start: u16, row: &Row, divisor: u32) -> u32
+        requires belongs { Belongs self.now.task.now (number mode) }
+        requires fits { start + budget self.now.task.now (number mode) ≤ self.now.task.now.deadline }
+        requires sound { Sound row.now }
+        requires divides { IsGcd self.now.task.now.period row.now.task.period divisor }
+        ensures pushes { Pushes controller (number mode) self.now.task.now start row.now result }
+    {
+        if row.controller != controller || !row.task.belongs(mode) {
+            return 0;
+        }
+        let own = Slot {
+            start,
+            budget: self.task.budget(mode),
+            period: self.task.period,
+        };
+        let other = Slot {
+            start: row.start(mode),
+            budget: row.task.budget(mode),
+            period: row.task.period,
+        };
+        own.hop(&other, divisor)
+            .unwrap_or(u32::from(self.task.period))
+    }
+
+    // The least start from which the task ends within its deadline and meets no placed row on this controller in this mode.
+    pub(crate) fn least_start(&self, controller: u8, mode: Mode) -> Option<u16>
+        requires belongs { Belongs self.now.task.now (number mode) }
+        ensures least { LeastIf (Clear controller (number mode) self.now.placed.now self.now.task.now) result }
+    {
+        let last = u32::from(self.task.deadline - self.task.budget(mode));
+        let mut next = 0;
+        'starts: while next <= last {
+            let start = next;
+            for (row, divisor) in self.placed.iter().zip(&self.divisors) {
+                let further = self.push(controller, mode, start as u16, row, *divisor);
+                if further > 0 {
+                    next = start + further;
+                    continue 'starts;
+                }
+            }
+            return Some(start as u16);
+        }
+        None
+    }
 }

@@ -2,14 +2,14 @@ ghost use Rattle.std.specs.Prelude.{◌≡◌};
 ghost use Rattle.tasks.specs.Modes.{in_mode, number};
 
 // Which table of starts a bench goes by: everyday, or critical after a job ran past its budget.
-#[derive(Clone, Copy)]
+#[derive(Clone, Copy, PartialEq, Eq)]
 pub enum Mode {
     Everyday,
     Critical,
 }
 
 // A number for each mode.
-#[derive(Clone, Copy)]
+#[derive(Clone, Copy, Default, PartialEq, Eq)]
 pub struct PerMode {
     pub everyday: u16,
     pub critical: u16,

@@ -6,7 +6,7 @@ use crate::mode::{Mode, PerMode};
 
 // A task as it was handed in: a plain record that may hold any numbers.
 // The level is 0 for an everyday task and 1 for a critical one; times count in ticks.
-#[derive(Clone, Copy)]
+#[derive(Clone, Copy, Default, PartialEq, Eq)]
 pub struct Task {
     pub id: u8,
     pub level: u8,
