@@ -4,7 +4,7 @@
 use printout::refusal_line;
 use quotation::appendix_of;
 use std::io;
-use std::io::{Read, Write};
+use std::io::Read;
 
 // More than any sheet that keeps the rules has.
 const MOST_BYTES: u64 = 4096;
@@ -15,9 +15,9 @@ const APPENDIX_BYTES: usize = 970;
 fn main(rt: HostRuntime) -> io::Result<()> {
     let mut sheet = Vec::new(rt.alloc());
     rt.stdin().take(MOST_BYTES).read_to_end(&mut sheet)?;
-    let mut appendix = [0u8; APPENDIX_BYTES];
+    let mut appendix = [0; APPENDIX_BYTES];
     match appendix_of(&sheet, &mut appendix) {
-        Ok(length) => rt.stdout().write_all(&appendix[0..length]),
-        Err(fault) => rt.stdout().write_all(&refusal_line(&fault.refusal())),
+        Ok(length) => rt.write_all(&appendix[..length]),
+        Err(fault) => rt.write_all(&refusal_line(&fault.into())),
     }
 }

@@ -1,57 +1,38 @@
 // Reads the table of sheets in `stdin` and prints the appendix or the refusal of each; `stdout` holds what should come.
 // A row is BYTES NAME: SHEET, where BYTES are lent for the appendix and / stands for the end of a line.
+// sheet_cases reads its rows alike: a crate for what both do would need the heap, and no library crate here uses it.
 #![tactic(auto)]
 
-use anyhow::anyhow;
+use anyhow::Context;
 use printout::refusal_line;
 use quotation::appendix_of;
-use std::alloc::{AllocError, Global};
-use std::io;
+use std::str;
 
-// The same text with one byte in the place of another.
-fn with_ends(heap: Global, text: &[u8], from: u8, to: u8) -> Result<Vec<u8>, AllocError> {
-    let mut bytes = Vec::new(heap);
-    for b in text {
-        bytes.push(if *b == from { to } else { *b })?;
-    }
-    Ok(bytes)
-}
+// As many bytes as the appendix of 64 tasks needs.
+const APPENDIX_BYTES: usize = 970;
 
-fn print_bytes(rt: &HostRuntime, bytes: &[u8]) -> io::Result<()> {
-    for b in bytes {
-        let c = *b as char;
-        print!(rt; "{c}")?;
-    }
-    Ok(())
-}
-
+// The length or the refusal, and then the bytes that were lent, where / stands for the end of a line.
 fn print_outcome(rt: &HostRuntime, sheet: &[u8], room: usize) -> anyhow::Result<()> {
-    let mut lent = [b'-'; 970];
-    let out = &mut lent[0..room.min(970)];
+    let mut lent = [b'-'; APPENDIX_BYTES];
+    let out = &mut lent[..room.min(APPENDIX_BYTES)];
     match appendix_of(sheet, out) {
         Ok(length) => print!(rt; "{length} bytes ")?,
         Err(fault) => {
-            let line = refusal_line(&fault.refusal());
-            print_bytes(rt, &line[0..10])?;
-            print!(rt; " ")?;
+            let line = refusal_line(&fault.into());
+            print!(rt; "{} ", str::from_utf8(&line)?.trim_end())?;
         }
     }
-    let shown = with_ends(rt.alloc(), out, b'\n', b'/')?;
-    print_bytes(rt, &shown)?;
-    println!(rt)?;
+    let shown = str::from_utf8(out)?.replace(rt.alloc(), '\n', "/")?;
+    println!(rt; "{shown}")?;
     Ok(())
 }
 
 fn show(rt: &HostRuntime, row: &str) -> anyhow::Result<()> {
-    let Some((room, rest)) = row.split_once(' ') else {
-        return Err(anyhow!("a row without room"));
-    };
-    let Some((_name, text)) = rest.split_once(": ") else {
-        return Err(anyhow!("a row without a sheet"));
-    };
-    let sheet = with_ends(rt.alloc(), text.as_bytes(), b'/', b'\n')?;
+    let (room, rest) = row.split_once(' ').context("a row without room")?;
+    let (_name, text) = rest.split_once(": ").context("a row without a sheet")?;
+    let sheet = text.replace(rt.alloc(), '/', "\n")?;
     print!(rt; "{row} -> ")?;
-    print_outcome(rt, &sheet, room.parse::<usize>()?)
+    print_outcome(rt, sheet.as_bytes(), room.parse()?)
 }
 
 fn main(rt: HostRuntime) -> anyhow::Result<()> {

@@ -13,7 +13,7 @@ use Rattle.benches.specs.Commands.{States, by_answer, end_after, end_answer as b
 use Rattle.machine.specs.Entries.{written}
 use Rattle.machine.specs.Below.{first_below}
 use Rattle.machine.specs.Machine.{State, acts, answer, answered, blocked, end_answer, end_of_time, from_bench, passed, settle, tick_answer, tick_events, unless_blocked, when_loaded}
-use Rattle.machine.specs.declared.entry.Answer.TheVariants.{Ticked, Done, Refused}
+use Rattle.machine.specs.declared.entry.Reply.TheVariants.{Ticked, Done}
 use Rattle.machine.specs.declared.entry.Call.{Call}
 use Rattle.machine.specs.declared.entry.Call.TheVariants.{Tick}
 use Rattle.machine.specs.declared.event.Event.{Event}
@@ -60,7 +60,7 @@ module _ {X : Type 0} (s : State) (r : Result X ControlFault) where
 module _ {B F : Type 0} (means : B → States) (keeps : B → F) (a b : Control B) where
   -- a refused call leaves all as it was
   pub refused
-      : (call : Call) (fault : ControlFault) → answer (state_of means a) call ≡ Refused (control_refusal fault)
+      : (call : Call) (fault : ControlFault) → answer (state_of means a) call ≡ Err (control_refusal fault)
       → state_of means b ≡ state_of means a → b.plan ≡ a.plan → keeps b.bench ≡ keeps a.bench → Steps means keeps a b call
   refused call fault e s p k = record { state = s ∙ sym (ap (settle (state_of means a) call) e); plan = p; fixed = k }
 

@@ -1,5 +1,5 @@
 -- How a tick's decision is put together.
-use Rattle.std.proofs.Common.{◌≡◌, ℕ, ◌+◌, ◌<◌, Bool, true, false, cond, ◌&&◌, ◌≢◌, List, length, get_or, set, is_some, Some, None, Option, sym, refl, ap, ◌∙◌, arith, below_more}
+use Rattle.std.proofs.Common.{◌≡◌, ℕ, ◌+◌, ◌<◌, Bool, true, false, cond, ◌&&◌, ◌≢◌, List, length, get_or, set, is_some, Some, None, Option, sym, refl, ap, ◌∙◌, subst, arith, below_more}
 use Rattle.std.proofs.lemmas.List.{length-set, get_or-set_same, get_or-set_other}
 use Rattle.std.proofs.lemmas.Bool.{both_ways, cond-true, cond-false}
 use Rattle.tasks.specs.Modes.{number}
@@ -9,14 +9,14 @@ use Rattle.machine.specs.Machine.{job_of}
 
 -- a table by controller, filled one place further
 pub table_more
-    : (xs : List (Option ℕ)) (n : ℕ) (f : ℕ → Option ℕ) (x : Option ℕ) → length xs ≡ 8 → n < 8
-    → ((d : ℕ) → d < n → get_or xs d None ≡ f d) → x ≡ f n
-    → (length (set xs n x) ≡ 8) × ((d : ℕ) → d < n + 1 → get_or (set xs n x) d None ≡ f d)
-table_more xs n f x len l old new = (
+    : (P : ℕ → Option ℕ → Type 0) (xs : List (Option ℕ)) (n : ℕ) (x : Option ℕ) → length xs ≡ 8 → n < 8
+    → ((d : ℕ) → d < n → P d (get_or xs d None)) → P n x
+    → (length (set xs n x) ≡ 8) × ((d : ℕ) → d < n + 1 → P d (get_or (set xs n x) d None))
+table_more P xs n x len l old new = (
   length-set xs n x ∙ len,
   below_more _ _
-      (λ d k. let ne : d ≢ n = omega arith in get_or-set_other xs n d x None ne ∙ old d k)
-      (get_or-set_same xs n x None (omega arith) ∙ new),
+      (λ d k. let ne : d ≢ n = omega arith in subst (P d) (sym (get_or-set_other xs n d x None ne)) (old d k))
+      (subst (P n) (sym (get_or-set_same xs n x None (omega arith))) new),
 )
 
 -- the mode and the opening that a switch leaves
@@ -36,9 +36,6 @@ unswitched b p mode next opening f e =
 -- whether a controller is blocked: a row d is due, and its job o, which started at t, is not cut
 abbrev stuck : Option ℕ → Bool → Option ℕ → ℕ → Bool
 stuck d b o t = is_some d && is_some (cond b None (job_of o t))
-
-pub nothing_due : (d : Option ℕ) (b : Bool) (o : Option ℕ) (t : ℕ) → is_some d ≡ false → false ≡ stuck d b o t
-nothing_due d b o t e = ap (λ x. x && is_some (cond b None (job_of o t))) (sym e)
 
 pub cut_away : (d : Option ℕ) (b : Bool) (o : Option ℕ) (t : ℕ) → is_some (cond b o None) ≡ true → false ≡ stuck d b o t
 cut_away None b o t e = refl

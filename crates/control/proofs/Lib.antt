@@ -2,12 +2,11 @@
 pub mod BusyOnes
 pub mod Calling
 pub mod Carrying
-pub mod Counting
 pub mod Deciding
+pub mod Ending
 pub mod Firsts
 pub mod Loads
 pub mod Performing
 pub mod Planned
-pub mod Shown
 pub mod Standings
 pub mod Writing

@@ -34,9 +34,6 @@ module _ (s : State) (m : ℕ) where
     after_first : load_answer s m ≡ some
     after_first = cond-true (eqb s.controllers 0) some (Err Loaded) (eq-eqb s.controllers 0 first)
 
-    pub load_none : m ≡ 0 → load_answer s m ≡ Err Counts
-    load_none e = after_first ∙ cond-true (eqb m 0) (Err Counts) same (eq-eqb m 0 e)
-
     module _ (n : m ≡ 0 → ⊥) where
       after_second : load_answer s m ≡ same
       after_second = after_first ∙ cond-false (eqb m 0) (Err Counts) same (ne_eqb m 0 n)

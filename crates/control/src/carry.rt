@@ -7,6 +7,7 @@ ghost use Rattle.control.specs.States.{state_of};
 ghost use Rattle.control.specs.Turns.{Able, Decided, Did, deed_events, event_of};
 
 use crate::control::Control;
+use crate::tallies::{with_cut, with_start};
 use crate::turn::{Deed, Turn};
 use benches::Bench;
 use machine::Event;
@@ -39,13 +40,13 @@ impl<B: Bench> Control<B> {
             }
             Event::Cut { controller, row } => {
                 if self.bench.end(controller).is_ok() {
-                    self.tallies.cut(row);
+                    self.tallies.set(row, with_cut(self.tallies.of(row)));
                 }
             }
             Event::Start { controller, row } => {
                 if self.bench.start(controller, row).is_ok() {
                     self.jobs.started(controller, self.next);
-                    self.tallies.started(row);
+                    self.tallies.set(row, with_start(self.tallies.of(row)));
                 }
             }
         }
@@ -68,7 +69,7 @@ impl<B: Bench> Control<B> {
         ensures did { Did B.Bench.meaning B.Bench.fixed self.old self.new events.old events.new (deed_events deed (length (B.Bench.meaning self.old.bench)) rows.now) }
     {
         for c in 0..self.bench.count() {
-            let held = rows[c as usize];
+            let held = rows[usize::from(c)];
             if let Some(row) = held {
                 self.note(deed.event(c, row), events);
             }

@@ -3,11 +3,12 @@ ghost use Rattle.std.specs.Prelude.{◌≡◌, cond, length, Ok};
 ghost use Rattle.records.specs.Lists.{lent};
 ghost use Rattle.machine.specs.Machine.{end_answer, load_answer, return_answer, tick_answer, unloaded, when_loaded};
 ghost use Rattle.machine.specs.declared.entry.Call.TheVariants.{Report, Return, Strike, Tick};
-ghost use Rattle.control.specs.Calls.{EventsAfter, Loads, Steps, counted};
+ghost use Rattle.control.specs.Calls.{Ends, EventsAfter, Loads, Steps, counted};
 ghost use Rattle.control.specs.States.{state_of};
 
 use crate::control::Control;
 use crate::tables::{Jobs, Tallies};
+use crate::tallies::{with_cut, with_report};
 use benches::{Bench, lowest_busy};
 use machine::Event;
 use planner::Plan;
@@ -81,7 +82,7 @@ impl<B: Bench> Control<B> {
         if self.next >= END_OF_TIME {
             return Err(ControlFault::Over);
         }
-        if events.places() < 2 * self.bench.count() as usize + 1 {
+        if events.places() < 2 * usize::from(self.bench.count()) + 1 {
             return Err(ControlFault::Places);
         }
         let turn = self.decide();
@@ -99,11 +100,8 @@ impl<B: Bench> Control<B> {
         ensures answer { result ≡ end_answer (state_of B.Bench.meaning self.old) controller }
         ensures steps { Steps B.Bench.meaning B.Bench.fixed self.old self.new (Report controller) }
     {
-        self.ready()?;
-        let held = self.row_on(controller);
-        self.bench.end(controller)?;
-        if let Some(row) = held {
-            self.tallies.reported(row);
+        if let Some(row) = self.end(controller)? {
+            self.tallies.set(row, with_report(self.tallies.of(row)));
         }
         Ok(())
     }
@@ -113,13 +111,20 @@ impl<B: Bench> Control<B> {
         ensures answer { result ≡ end_answer (state_of B.Bench.meaning self.old) controller }
         ensures steps { Steps B.Bench.meaning B.Bench.fixed self.old self.new (Strike controller) }
     {
+        if let Some(row) = self.end(controller)? {
+            self.tallies.set(row, with_cut(self.tallies.of(row)));
+        }
+        Ok(())
+    }
+
+    // Ends the job on the controller, counted for no row yet, and answers its row.
+    fn end(&mut self, controller: u8) -> Result<Option<u8>, ControlFault>
+        ensures ends { Ends B.Bench.meaning B.Bench.fixed self.old self.new controller result }
+    {
         self.ready()?;
         let held = self.row_on(controller);
         self.bench.end(controller)?;
-        if let Some(row) = held {
-            self.tallies.cut(row);
-        }
-        Ok(())
+        Ok(held)
     }
 
     // Back to the everyday mode, which opens at the next instant.
@@ -128,7 +133,7 @@ impl<B: Bench> Control<B> {
         ensures steps { Steps B.Bench.meaning B.Bench.fixed self.old self.new Return }
     {
         self.ready()?;
-        if let Mode::Everyday = self.mode {
+        if self.mode == Mode::Everyday {
             return Err(ControlFault::Everyday);
         }
         if lowest_busy(&self.bench).is_some() {

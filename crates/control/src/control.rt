@@ -2,7 +2,8 @@ use crate::tables::{Jobs, Tallies};
 use planner::Plan;
 use tasks::Mode;
 
-// A control over a bench. A plan with no controllers is none: the control is not loaded yet.
+// A control over a bench. It is not loaded yet while its plan has no controllers. That is a plan not yet filled, which every
+// answer speaks of as it is, so no `Option` stands around it.
 #[derive(Drop)]
 pub struct Control<B> {
     pub(crate) bench: B,

@@ -19,13 +19,21 @@ fn is_due(row: &Row, controller: u8, mode: Mode, elapsed: u64) -> bool
     requires period { 1 ≤ row.now.task.period }
     ensures value { result ≡ due_at (Some row.now) (number mode) elapsed controller }
 {
-    if row.controller != controller {
-        return false;
+    row.controller == controller
+        && row.task.belongs(mode)
+        && elapsed % u64::from(row.task.period) == u64::from(row.start(mode))
+}
+
+// What the rule gives for each controller.
+fn by_controller<F: Fn(u8) -> Option<u8>>(rule: F) -> [Option<u8>; 8]
+    requires callable { F.IsAlwaysCallable rule }
+    ensures each { (c : ℕ) → c < 8 → F.post rule c (slice_index_or result c None) }
+{
+    let mut rows = [None; 8];
+    for (c, row) in rows.iter_mut().enumerate() {
+        *row = rule(c as u8);
     }
-    if !row.task.belongs(mode) {
-        return false;
-    }
-    elapsed % row.task.period as u64 == row.start(mode) as u64
+    rows
 }
 
 impl<B: Bench> Control<B> {
@@ -33,22 +41,16 @@ impl<B: Bench> Control<B> {
     pub(crate) fn row_on(&self, controller: u8) -> Option<u8>
         ensures value { result ≡ slice_index_or (B.Bench.meaning self.now.bench) controller None }
     {
-        match self.bench.state(controller) {
-            Ok(row) => row,
-            Err(_) => None,
-        }
+        self.bench.state(controller).unwrap_or(None)
     }
 
     // How many ticks a job of the row may take in the present mode, and 0 where the plan has no such row.
     fn budget(&self, row: u8) -> u16
         ensures value { result ≡ budget_at (slice_get (rows_of self.now.plan) row) (number self.now.mode) }
     {
-        let rows = self.plan.rows();
-        let at = row as usize;
-        if at < rows.len() {
-            rows[at].task.budget(self.mode)
-        } else {
-            0
+        match self.plan.rows().get(usize::from(row)) {
+            Some(row) => row.task.budget(self.mode),
+            None => 0,
         }
     }
 
@@ -60,7 +62,7 @@ impl<B: Bench> Control<B> {
             None => false,
             Some(row) => {
                 let ran = self.next.saturating_sub(self.jobs.since(controller));
-                self.budget(row) as u64 <= ran
+                u64::from(self.budget(row)) <= ran
             }
         }
     }
@@ -80,10 +82,7 @@ impl<B: Bench> Control<B> {
     pub(crate) fn switches(&self) -> bool
         ensures value { result ≡ switches (state_of B.Bench.meaning self.now) }
     {
-        match self.mode {
-            Mode::Everyday => self.some_spent(),
-            Mode::Critical => false,
-        }
+        self.mode == Mode::Everyday && self.some_spent()
     }
 
     // The row that is due on the controller after so many instants of the mode.
@@ -109,26 +108,6 @@ impl<B: Bench> Control<B> {
         }
     }
 
-    fn cuts(&self, switching: bool) -> [Option<u8>; 8]
-        ensures each { (c : ℕ) → c < length (B.Bench.meaning self.now.bench) → slice_index_or result c None ≡ cut_row switching (state_of B.Bench.meaning self.now) c }
-    {
-        let mut rows = [None; 8];
-        for c in 0..self.bench.count() {
-            rows[c as usize] = self.cut_row(switching, c);
-        }
-        rows
-    }
-
-    fn starts(&self, mode: Mode, elapsed: u64) -> [Option<u8>; 8]
-        ensures each { (c : ℕ) → c < length (B.Bench.meaning self.now.bench) → slice_index_or result c None ≡ due_in (rows_of self.now.plan) (number mode) elapsed c }
-    {
-        let mut rows = [None; 8];
-        for c in 0..self.bench.count() {
-            rows[c as usize] = self.due(c, mode, elapsed);
-        }
-        rows
-    }
-
     pub(crate) fn decide(&self) -> Turn
         ensures decided { Decided (state_of B.Bench.meaning self.now) result }
     {
@@ -138,10 +117,11 @@ impl<B: Bench> Control<B> {
         } else {
             (self.mode, self.opening)
         };
+        let elapsed = self.next.saturating_sub(opening);
         Turn {
             switches,
-            cuts: self.cuts(switches),
-            starts: self.starts(mode, self.next.saturating_sub(opening)),
+            cuts: by_controller(|c| self.cut_row(switches, c)),
+            starts: by_controller(|c| self.due(c, mode, elapsed)),
         }
     }
 

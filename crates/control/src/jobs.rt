@@ -8,7 +8,7 @@ impl Jobs {
         ensures all { since_of result ≡ replicate 8 0 }
     {
         Jobs {
-            table: [ControllerRecord { since: 0 }; 8],
+            table: [ControllerRecord::default(); 8],
         }
     }
 
@@ -16,11 +16,9 @@ impl Jobs {
     pub(crate) fn since(&self, controller: u8) -> u64
         ensures value { result ≡ slice_index (since_of self.now) controller }
     {
-        if controller < 8 {
-            self.table[controller as usize].since
-        } else {
-            0
-        }
+        self.table
+            .get(usize::from(controller))
+            .map_or(0, |record| record.since)
     }
 
     // The controller's present job started at this instant.
@@ -28,7 +26,7 @@ impl Jobs {
         ensures after { since_of self.new ≡ slice_set (since_of self.old) controller instant }
     {
         if controller < 8 {
-            self.table[controller as usize] = ControllerRecord { since: instant };
+            self.table[usize::from(controller)] = ControllerRecord { since: instant };
         }
     }
 }

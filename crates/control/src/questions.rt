@@ -30,7 +30,7 @@ impl<B: Bench> Control<B> {
         ensures answer { result ≡ counts_answer (state_of B.Bench.meaning self.now) row }
     {
         self.ready()?;
-        if row as usize >= self.plan.rows().len() {
+        if usize::from(row) >= self.plan.rows().len() {
             return Err(ControlFault::NoRow { row });
         }
         Ok(self.tallies.of(row))

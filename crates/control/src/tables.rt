@@ -3,7 +3,7 @@ ghost use Rattle.std.specs.Prelude.{◌≡◌, length};
 use machine::Counts;
 
 // What is kept of a controller: the instant at which its present job started.
-#[derive(Clone, Copy)]
+#[derive(Clone, Copy, Default)]
 pub(crate) struct ControllerRecord {
     pub(crate) since: u64,
 }

@@ -1,4 +1,5 @@
-// What a tick will do: whether it switches, and by controller the row whose job it cuts and the row that it starts.
+// What a tick will do: whether it switches, and by controller the row whose job it cuts and the row that it starts. Two
+// tables and not one of pairs, since each is carried out whole, the cuts before the starts.
 #[derive(Clone, Copy)]
 pub(crate) struct Turn {
     pub(crate) switches: bool,
@@ -6,7 +7,8 @@ pub(crate) struct Turn {
     pub(crate) starts: [Option<u8>; 8],
 }
 
-// What is done to a controller by a tick: its job is cut, or a row is started.
+// What is done to a controller by a tick: its job is cut, or a row is started. An enum and no closure, so that the promise
+// can name the event of each.
 #[derive(Clone, Copy)]
 pub(crate) enum Deed {
     End,

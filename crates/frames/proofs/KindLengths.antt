@@ -1,11 +1,10 @@
--- What a kind and its fields make, and when they make no frame.
-use Rattle.std.proofs.Common.{◌≡◌, ℕ, ◌+◌, ◌-◌, ◌*◌, ◌%◌, ◌<◌, ◌≤◌, Bool, true, false, cond, ◌&&◌, eqb, ltb, List, [], ◌∷◌, length, get_or, take, drop, Ok, Err, refl, ap, ⊎_elim, arith, length-drop}
-use Rattle.std.proofs.lemmas.List.{take_rest}
-use Rattle.std.proofs.lemmas.Bool.{cases_eq, eq-eqb, ne_eqb, and_left, and_right}
+-- When a kind and its fields make no frame.
+use Rattle.std.proofs.Common.{◌≡◌, ℕ, ◌+◌, ◌*◌, ◌%◌, ◌<◌, Bool, true, false, cond, ◌&&◌, eqb, ltb, List, [], ◌∷◌, length, get_or, drop, Ok, Err, refl, ap, ⊎_elim, arith}
+use Rattle.std.proofs.lemmas.Bool.{cases_eq, ne_eqb, and_left, and_right}
 use Rattle.digits.specs.Digits.{is_digit, byte_at}
 use Rattle.tasks.specs.declared.fault.DigitFault.TheVariants.{Bad, Odd}
 use Rattle.tasks.specs.declared.fault.FrameFault.TheVariants.{NoFrame}
-use Rattle.frames.specs.Frames.{opening, row, close, framed, task_of, digits_checked, unless_digits, frame_of}
+use Rattle.frames.specs.Frames.{framed, digits_checked, unless_digits, frame_of}
 
 neither : (a n b m : ℕ) → (a ≡ n → b ≡ m → ⊥) → (eqb a n && eqb b m) ≡ false
 neither a n b m h = ⊎_elim (λ e. and_right (eqb a n) (eqb b m) (ne_eqb b m (h e))) (λ e. and_left (eqb a n) (eqb b m) (ne_eqb a n e)) (cases_eq a n)
@@ -13,20 +12,6 @@ neither a n b m h = ⊎_elim (λ e. and_right (eqb a n) (eqb b m) (ne_eqb b m (h
 -- a kind without its length makes no frame
 pub no_frame : (line kind : ℕ) (fields : List ℕ) → (kind ≡ 1 → length fields ≡ 4 → ⊥) → (kind ≡ 2 → length fields ≡ 20 → ⊥) → (kind ≡ 3 → length fields ≡ 0 → ⊥) → framed line kind fields ≡ Err (NoFrame line)
 no_frame line kind fields a b c = rw (neither kind 1 (length fields) 4 a, neither kind 2 (length fields) 20 b, neither kind 3 (length fields) 0 c)
-
--- the three kinds, each with its length
-pub as_opening : (line kind : ℕ) (ds : List ℕ) → kind ≡ 1 → length ds ≡ 4 → Ok (opening (byte_at ds 0) (byte_at ds 1)) ≡ framed line kind ds
-as_opening line kind ds k l = rw (eq-eqb kind 1 k, eq-eqb (length ds) 4 l)
-
-pub as_row : (line kind : ℕ) (ds : List ℕ) → kind ≡ 2 → length ds ≡ 20 → Ok (row (task_of ds)) ≡ framed line kind ds
-as_row line kind ds k l = rw (ne_eqb kind 1 (λ e. omega arith), eq-eqb kind 2 k, eq-eqb (length ds) 20 l)
-
-pub as_close : (line kind : ℕ) (ds : List ℕ) → kind ≡ 3 → length ds ≡ 0 → Ok close ≡ framed line kind ds
-as_close line kind ds k l = rw (ne_eqb kind 1 (λ e. omega arith), ne_eqb kind 2 (λ e. omega arith), eq-eqb kind 3 k, eq-eqb (length ds) 0 l)
-
--- the field digits are two to a field byte
-pub fields_long : (bytes digits : List ℕ) → 2 * length bytes ≡ length digits → 1 ≤ length bytes → length (drop 2 digits) ≡ 2 * length (take (length bytes - 1) (drop 1 bytes))
-fields_long bytes digits e l = omega (arith, length-drop 2 digits, length-drop 1 bytes, ap length (take_rest bytes 1))
 
 -- the first decoded byte is that of the digits, also where there is none
 pub first_byte : (bytes ds : List ℕ) → 2 * length bytes ≡ length ds → ((k : ℕ) → k < length bytes → get_or bytes k 0 ≡ byte_at ds k) → get_or bytes 0 0 ≡ byte_at ds 0

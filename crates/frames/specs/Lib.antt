@@ -1,3 +1,4 @@
--- Frames and their text.
+-- Frames, their kinds and their text.
 pub mod Frames
+pub mod Kinds
 pub mod Texts

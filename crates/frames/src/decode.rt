@@ -9,7 +9,7 @@ pub(crate) fn decode(digits: &[u8], bytes: &mut [u8])
     requires { 2 * length bytes.old ≤ length digits.now }
     ensures each { (k : ℕ) → k < length bytes.new → slice_index bytes.new k ≡ byte_at digits.now k }
 {
-    for k in 0..bytes.len() {
-        bytes[k] = byte(digits[2 * k], digits[2 * k + 1]);
+    for (k, b) in bytes.iter_mut().enumerate() {
+        *b = byte(digits[2 * k], digits[2 * k + 1]);
     }
 }

@@ -10,7 +10,7 @@ use tasks::{PerMode, Task};
 fn word(high: u8, low: u8) -> u16
     ensures value { result ≡ 256 * high + low }
 {
-    256 * high as u16 + low as u16
+    u16::from_be_bytes([high, low])
 }
 
 // The count of controllers and the number of tasks.

@@ -1,9 +1,12 @@
-ghost use Rattle.std.specs.Prelude.{◌≡◌, ◌*◌, ◌%◌, length, drop, slice_index};
+ghost use Rattle.std.specs.Prelude.{◌≡◌, ◌*◌, ◌%◌, ◌≤◌, ◌≢◌, length, drop, slice_index, MatchResult, not};
+ghost use Rattle.std.specs.List.{position};
+ghost use Rattle.tasks.specs.declared.fault.FrameFault.TheVariants.{NoFrame};
 ghost use Rattle.frames.specs.Frames.{digits_checked, framed, frame_of, shown};
-ghost use Rattle.digits.specs.Digits.{byte_at};
+ghost use Rattle.digits.specs.Digits.{byte_at, is_digit};
 ghost use Rattle.frames.specs.Texts.{ReadsExactly};
 
 use crate::decode::decode;
+use crate::kind::Kind;
 use digits::is_digit;
 use tasks::{DigitFault, FrameFault};
 
@@ -22,76 +25,85 @@ pub enum Frame<'a> {
     Close,
 }
 
-// The first byte of a line that is no digit, then an odd count.
-fn check_digits(line: &Line) -> Result<(), DigitFault>
-    ensures value { result ≡ digits_checked line.now.number line.now.digits.now }
+// The first byte that is no digit.
+fn first_bad(digits: &[u8]) -> Option<usize>
+    ensures value { result ≡ position (λ b. not (is_digit b)) digits.now }
 {
-    for (i, b) in line.digits.iter().enumerate() {
-        if !is_digit(*b) {
+    digits.iter().position(|b| !is_digit(*b))
+}
+
+impl<'a> Line<'a> {
+    // The frame on the line: its digits are checked before its kind and its length.
+    pub fn frame(self) -> Result<Frame<'a>, FrameFault>
+        ensures value { shown result ≡ frame_of self.entry.number self.entry.digits.now }
+        ensures exactly { ReadsExactly self.entry.digits.now (shown result) }
+    {
+        self.check_digits()?;
+        self.decoded()
+    }
+
+    // The first byte that is no digit, then an odd count.
+    fn check_digits(&self) -> Result<(), DigitFault>
+        ensures value { result ≡ digits_checked self.now.number self.now.digits.now }
+    {
+        let line = self.number;
+        if let Some(at) = first_bad(self.digits) {
             return Err(DigitFault::Bad {
-                line: line.number,
-                column: i + 1,
+                line,
+                column: at + 1,
             });
         }
+        let count = self.digits.len();
+        if count % 2 == 1 {
+            return Err(DigitFault::Odd {
+                line,
+                column: count + 1,
+            });
+        }
+        Ok(())
     }
-    let count = line.digits.len();
-    if count % 2 == 1 {
-        return Err(DigitFault::Odd {
-            line: line.number,
-            column: count + 1,
-        });
-    }
-    Ok(())
-}
 
-// The frame on a line, from its bytes and its digits: the first byte is the kind, the rest are the fields.
-fn by_kind<'a>(line: usize, bytes: &[u8], digits: &'a [u8]) -> Result<Frame<'a>, FrameFault>
-    requires { 2 * length bytes.now ≡ length digits.now }
-    ensures value { shown result ≡ framed line (slice_index bytes.now 0) (drop 2 digits.now) }
-{
-    match bytes {
-        [kind, fields @ ..] => match *kind {
-            1 => match <&[u8; 4]>::try_from(&digits[2..]) {
-                Ok(own) => Ok(Frame::Opening(own)),
-                Err(_) => Err(FrameFault::NoFrame { line }),
-            },
-            2 => match <&[u8; 20]>::try_from(&digits[2..]) {
-                Ok(own) => Ok(Frame::Row(own)),
-                Err(_) => Err(FrameFault::NoFrame { line }),
-            },
-            3 => {
-                if fields.is_empty() {
-                    Ok(Frame::Close)
-                } else {
-                    Err(FrameFault::NoFrame { line })
-                }
-            }
-            _ => Err(FrameFault::NoFrame { line }),
-        },
-        [] => Err(FrameFault::NoFrame { line }),
+    // The frame, where the digits are good. The longest has eleven bytes, so no more are decoded.
+    fn decoded(self) -> Result<Frame<'a>, FrameFault>
+        requires { length self.digits.now % 2 ≡ 0 }
+        ensures value { shown result ≡ framed self.entry.number (byte_at self.entry.digits.now 0) (drop 2 self.entry.digits.now) }
+    {
+        let count = self.digits.len() / 2;
+        if count > 11 {
+            return Err(FrameFault::NoFrame { line: self.number });
+        }
+        let mut buffer = [0u8; 11];
+        let bytes = &mut buffer[0..count];
+        decode(self.digits, bytes);
+        self.by_kind(bytes)
     }
-}
 
-// The frame on a line. The longest frame has eleven bytes, so no more are decoded.
-fn decoded<'a>(line: usize, digits: &'a [u8]) -> Result<Frame<'a>, FrameFault>
-    requires { length digits.now % 2 ≡ 0 }
-    ensures value { shown result ≡ framed line (byte_at digits.now 0) (drop 2 digits.now) }
-{
-    let count = digits.len() / 2;
-    if count > 11 {
-        return Err(FrameFault::NoFrame { line });
+    // The frame of these bytes: the first is the kind, the rest are the fields.
+    fn by_kind(self, bytes: &[u8]) -> Result<Frame<'a>, FrameFault>
+        requires { 2 * length bytes.now ≡ length self.digits.now }
+        ensures value { shown result ≡ framed self.entry.number (slice_index bytes.now 0) (drop 2 self.entry.digits.now) }
+    {
+        let no_frame = FrameFault::NoFrame { line: self.number };
+        let [kind, fields @ ..] = bytes else {
+            return Err(no_frame);
+        };
+        match Kind::try_from(*kind) {
+            Ok(Kind::Opening) => Ok(Frame::Opening(self.fields()?)),
+            Ok(Kind::Row) => Ok(Frame::Row(self.fields()?)),
+            Ok(Kind::Close) if fields.is_empty() => Ok(Frame::Close),
+            Ok(Kind::Close) => Err(no_frame),
+            Err(_) => Err(no_frame),
+        }
     }
-    let mut buffer = [0u8; 11];
-    let bytes = &mut buffer[0..count];
-    decode(digits, bytes);
-    by_kind(line, bytes, digits)
-}
 
-// The frame on a line: its digits are checked before its kind and its length.
-pub fn frame_of<'a>(line: Line<'a>) -> Result<Frame<'a>, FrameFault>
-    ensures value { shown result ≡ frame_of line.entry.number line.entry.digits.now }
-    ensures exactly { ReadsExactly line.entry.digits.now (shown result) }
-{
-    check_digits(&line)?;
-    decoded(line.number, line.digits)
+    // The digits of the fields, where there are as many as the kind has.
+    fn fields<const N: usize>(self) -> Result<&'a [u8; N], FrameFault>
+        requires { 2 ≤ length self.digits.now }
+        ensures value { MatchResult result (λ own. (own.now ≡ drop 2 self.entry.digits.now) × (length (drop 2 self.entry.digits.now) ≡ N)) (λ fault. (fault ≡ NoFrame self.entry.number) × (length (drop 2 self.entry.digits.now) ≢ N)) }
+    {
+        match <&[u8; N]>::try_from(&self.digits[2..]) {
+            Ok(own) => Ok(own),
+            Err(_) => Err(FrameFault::NoFrame { line: self.number }),
+        }
+    }
 }

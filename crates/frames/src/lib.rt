@@ -4,6 +4,7 @@
 mod decode;
 mod fields;
 mod frame;
+mod kind;
 
 pub use fields::{opening_fields, task_fields};
-pub use frame::{Frame, Line, frame_of};
+pub use frame::{Frame, Line};

@@ -9,15 +9,18 @@ use Rattle.tasks.specs.declared.fault.ControlFault.TheVariants.{NotLoaded, NoRow
 use Rattle.planner.specs.Standing.{Stands}
 use Rattle.planner.specs.declared.row.Row.{Row as PlanRow}
 use Rattle.benches.specs.Commands.{by_state, end_answer as bench_end, state_answer as bench_state}
+use Rattle.tasks.specs.Refusals.{reason_number}
+use Rattle.tasks.specs.declared.reason.Layer.TheVariants as layer
+use Rattle.tasks.specs.declared.reason.Reason.TheVariants as reason
 use Rattle.machine.specs.declared.event.Written.{Written}
 use Rattle.machine.specs.declared.entry.Call.{Call}
 use Rattle.machine.specs.declared.entry.Call.TheVariants.{Tick, Report, Strike, Return, Controller, Row, Status}
 use Rattle.machine.specs.declared.entry.Standing.{Standing}
-use Rattle.machine.specs.declared.entry.Answer.{Answer}
-use Rattle.machine.specs.declared.entry.Answer.TheVariants.{Ticked, Done, Shown, Counted, Stood, Refused}
+use Rattle.machine.specs.declared.entry.Reply.{Reply}
+use Rattle.machine.specs.declared.entry.Reply.TheVariants.{Ticked, Done, Shown, Counted, Stood}
 use Rattle.machine.specs.declared.entry.Entry.{Entry}
 use Rattle.machine.specs.Below.{first_below, count_below}
-use Rattle.machine.specs.Entries.{Job, written, events_of, refuse, mode_of, entry}
+use Rattle.machine.specs.Entries.{Answer, Job, written, events_of, refuse, mode_of, entry}
 use Rattle.machine.specs.Machine.{
   State,
   none_yet,
@@ -82,12 +85,12 @@ pub record Stepped (m : ℕ) (rows : List PlanRow) (s : State) (h : Told) (call 
   pub answers : Answers m rows h call a
   pub commands : Commands m h call a
   pub never_busy : NeverBusy h call a
-  pub idle_then : (w : Written) → a ≡ Ticked w → IdleThen h (events_of w)
-  pub on_time : (w : Written) → a ≡ Ticked w → OnTime rows h (events_of w)
-  pub in_time : (w : Written) → a ≡ Ticked w → InTime rows h (events_of w)
-  pub overruns : (w : Written) → a ≡ Ticked w → Overruns rows h (events_of w)
-  pub in_order : (w : Written) → a ≡ Ticked w → InOrder m h (events_of w)
-  pub few_events : (w : Written) → a ≡ Ticked w → FewEvents m h (events_of w)
+  pub idle_then : (w : Written) → a ≡ Ok (Ticked w) → IdleThen h (events_of w)
+  pub on_time : (w : Written) → a ≡ Ok (Ticked w) → OnTime rows h (events_of w)
+  pub in_time : (w : Written) → a ≡ Ok (Ticked w) → InTime rows h (events_of w)
+  pub overruns : (w : Written) → a ≡ Ok (Ticked w) → Overruns rows h (events_of w)
+  pub in_order : (w : Written) → a ≡ Ok (Ticked w) → InOrder m h (events_of w)
+  pub few_events : (w : Written) → a ≡ Ok (Ticked w) → FewEvents m h (events_of w)
   pub padded : Padded h call a
 
 -- Which question a call is.
@@ -112,21 +115,17 @@ tells Status = 0
 
 -- The number of a refusal.
 abbrev number_of : Answer → ℕ
-number_of (Ticked es) = 0
-number_of Done = 0
-number_of (Shown x) = 0
-number_of (Counted x) = 0
-number_of (Stood x) = 0
-number_of (Refused x) = x.number
+number_of (Ok _) = 0
+number_of (Err x) = reason_number x.reason
 
 -- 1 where the answer is that of an accepted tick.
 abbrev ticks_in : Answer → ℕ
-ticks_in (Ticked es) = 1
-ticks_in Done = 0
-ticks_in (Shown x) = 0
-ticks_in (Counted x) = 0
-ticks_in (Stood x) = 0
-ticks_in (Refused x) = 0
+ticks_in (Ok (Ticked es)) = 1
+ticks_in (Ok Done) = 0
+ticks_in (Ok (Shown x)) = 0
+ticks_in (Ok (Counted x)) = 0
+ticks_in (Ok (Stood x)) = 0
+ticks_in (Err x) = 0
 
 -- The laws on answers say nothing of a command.
 no_question : {m : ℕ} {rows : List PlanRow} {h : Told} (call : Call) (a : Answer) → asks call ≡ 0 → Answers m rows h call a
@@ -159,9 +158,9 @@ no_command call a z = record {
 -- What the laws on commands ask of a tick.
 tick_command
     : {m : ℕ} {h : Told} (places : ℕ) (a : Answer)
-    → (h.ticks ≡ 2 ^ 40 → a ≡ refuse 16 5 0)
-    → ((h.ticks ≡ 2 ^ 40 → ⊥) → places < 2 * m + 1 → a ≡ refuse 15 5 0)
-    → ((h.ticks ≡ 2 ^ 40 → ⊥) → 2 * m + 1 ≤ places → (w : Written) × (a ≡ Ticked w))
+    → (h.ticks ≡ 2 ^ 40 → a ≡ refuse reason.Over layer.Control 0)
+    → ((h.ticks ≡ 2 ^ 40 → ⊥) → places < 2 * m + 1 → a ≡ refuse reason.Places layer.Control 0)
+    → ((h.ticks ≡ 2 ^ 40 → ⊥) → 2 * m + 1 ≤ places → (w : Written) × (a ≡ Ok (Ticked w)))
     → Commands m h (Tick places) a
 tick_command {m} {h} places a over short taken = record {
   tick_over = λ p e k. over k;
@@ -195,16 +194,16 @@ ended_on Status = 0
 -- What the laws on commands ask of a report or a strike on c.
 end_command
     : {m : ℕ} {h : Told} (call : Call) (c : ℕ) (a : Answer) → ((2 ≤ tells call) × (tells call ≤ 3)) → ended_on call ≡ c
-    → (m ≤ c → a ≡ refuse 11 6 c) → (c < m → h.running c ≡ None → a ≡ refuse 12 6 c)
-    → ((j : Job) → h.running c ≡ Some j → a ≡ Done)
+    → (m ≤ c → a ≡ refuse reason.Beyond layer.Bench c) → (c < m → h.running c ≡ None → a ≡ refuse reason.Idle layer.Bench c)
+    → ((j : Job) → h.running c ≡ Some j → a ≡ Ok Done)
     → Commands m h call a
 end_command {m} {h} call c a ends on beyond idle taken = record {
   tick_over = λ p e k. absurd (omega (arith, ap tells e));
   tick_short = λ p e k l. absurd (omega (arith, ap tells e));
   tick_taken = λ p e k l. absurd (omega (arith, ap tells e));
-  end_beyond = λ d e l. subst (λ (i : ℕ). a ≡ refuse 11 6 i) (same d e) (beyond (omega (arith, same d e)));
+  end_beyond = λ d e l. subst (λ (i : ℕ). a ≡ refuse reason.Beyond layer.Bench i) (same d e) (beyond (omega (arith, same d e)));
   end_idle = λ d e l k.
-      subst (λ (i : ℕ). a ≡ refuse 12 6 i) (same d e) (idle (omega (arith, same d e)) (ap h.running (same d e) ∙ k));
+      subst (λ (i : ℕ). a ≡ refuse reason.Idle layer.Bench i) (same d e) (idle (omega (arith, same d e)) (ap h.running (same d e) ∙ k));
   end_taken = λ d e j k. taken j (ap h.running (same d e) ∙ k);
   return_everyday = λ e k. absurd (omega (arith, ap tells e));
   return_busy = λ e k c j is. absurd (omega (arith, ap tells e));
@@ -217,9 +216,9 @@ end_command {m} {h} call c a ends on beyond idle taken = record {
 
 -- What the laws on commands ask of a return.
 return_command
-    : {m : ℕ} {h : Told} (a : Answer) → (h.mode ≡ 0 → a ≡ refuse 13 5 0)
-    → ((h.mode ≡ 0 → ⊥) → (c : ℕ) (j : Job) → h.running c ≡ Some j → a ≡ refuse 14 5 0)
-    → ((h.mode ≡ 0 → ⊥) → ((c : ℕ) → h.running c ≡ None) → a ≡ Done)
+    : {m : ℕ} {h : Told} (a : Answer) → (h.mode ≡ 0 → a ≡ refuse reason.Everyday layer.Control 0)
+    → ((h.mode ≡ 0 → ⊥) → (c : ℕ) (j : Job) → h.running c ≡ Some j → a ≡ refuse reason.SomeBusy layer.Control 0)
+    → ((h.mode ≡ 0 → ⊥) → ((c : ℕ) → h.running c ≡ None) → a ≡ Ok Done)
     → Commands m h Return a
 return_command a everyday full taken = record {
   tick_over = λ p e k. absurd (omega (arith, ap tells e));
@@ -246,7 +245,7 @@ plain call a z n ag ans cmd = record {
   agrees = ag;
   answers = ans;
   commands = cmd;
-  never_busy = λ refusal e k. n (ap number_of e ∙ k);
+  never_busy = λ refusal e k. n (ap number_of e ∙ ap reason_number k);
   idle_then = λ es e. absurd (omega (arith, ap ticks_in e));
   on_time = λ es e. absurd (omega (arith, ap ticks_in e));
   in_time = λ es e. absurd (omega (arith, ap ticks_in e));
@@ -343,7 +342,7 @@ module _ {m : ℕ} {rows : List PlanRow} {s : State} {h : Told} (ag : Agrees m r
 module _ {m : ℕ} {rows : List PlanRow} (one : 1 ≤ m) (st : Stands m rows) {s : State} {h : Told} (ag : Agrees m rows s h) where
   -- A plan is loaded, so the test for that is passed.
   when_loaded_is
-      : {X : Type 0} (call : Call) (taken : X → Answer) (r : Result X ControlFault) → Stepped m rows s h call (answered taken r)
+      : {X : Type 0} (call : Call) (taken : X → Reply) (r : Result X ControlFault) → Stepped m rows s h call (answered taken r)
       → Stepped m rows s h call (answered taken (when_loaded s r))
   when_loaded_is {X} call taken r =
       subst (λ (x : Result X ControlFault). Stepped m rows s h call (answered taken x))
@@ -388,17 +387,17 @@ module _ {m : ℕ} {rows : List PlanRow} (one : 1 ≤ m) (st : Stands m rows) {s
 
       accepted
           : leb (2 ^ 40) s.next ≡ false → 2 * m + 1 ≤ places
-          → Stepped m rows s h (Tick places) (Ticked (written (tick_events s)))
+          → Stepped m rows s h (Tick places) (Ok (Ticked (written (tick_events s))))
       accepted e l =
           let x : Written = written (tick_events s) in
           let w : WellTicked m rows s h (events_of x) =
           subst (WellTicked m rows s h) (sym (read_back (tick_events s))) (tick_well.1 (not_end e)) in
-          let same : (y : Written) → Ticked x ≡ Ticked y → x ≡ y = λ y e. cc in
+          let same : (y : Written) → ◌≡◌ {A = Answer} (Ok (Ticked x)) (Ok (Ticked y)) → x ≡ y = λ y e. cc in
           record {
             agrees = w.agrees;
-            answers = no_question (Tick places) (Ticked x) refl;
+            answers = no_question (Tick places) (Ok (Ticked x)) refl;
             commands =
-                tick_command places (Ticked x) (λ k. absurd (not_over e k)) (λ k z. absurd (omega arith)) (λ k z. (x, refl));
+                tick_command places (Ok (Ticked x)) (λ k. absurd (not_over e k)) (λ k z. absurd (omega arith)) (λ k z. (x, refl));
             never_busy = λ refusal e k. absurd (omega (arith, ap ticks_in e));
             idle_then = λ y e. subst (λ (y : Written). IdleThen h (events_of y)) (same y e) w.idle_then;
             on_time = λ y e. subst (λ (y : Written). OnTime rows h (events_of y)) (same y e) w.on_time;
@@ -416,13 +415,13 @@ module _ {m : ℕ} {rows : List PlanRow} (one : 1 ≤ m) (st : Stands m rows) {s
           (answered (λ es. Ticked (written es)) (cond x (Err Over)
           (cond y (Err Places) (unless_blocked (first_below (length s.shows) (blocked s)) (tick_events s)))))
       go true e y k =
-          plain (Tick places) (refuse 16 5 0) refl (λ z. omega arith) ag (no_question (Tick places) (refuse 16 5 0) refl)
-          (tick_command places (refuse 16 5 0) (λ z. refl)
+          plain (Tick places) (refuse reason.Over layer.Control 0) refl (λ z. omega arith) ag (no_question (Tick places) (refuse reason.Over layer.Control 0) refl)
+          (tick_command places (refuse reason.Over layer.Control 0) (λ z. refl)
           (λ n l. absurd (n (at_end_so e)))
           (λ n l. absurd (n (at_end_so e))))
       go false e true k =
-          plain (Tick places) (refuse 15 5 0) refl (λ z. omega arith) ag (no_question (Tick places) (refuse 15 5 0) refl)
-          (tick_command places (refuse 15 5 0) (λ z. absurd (not_over e z)) (λ n l. refl)
+          plain (Tick places) (refuse reason.Places layer.Control 0) refl (λ z. omega arith) ag (no_question (Tick places) (refuse reason.Places layer.Control 0) refl)
+          (tick_command places (refuse reason.Places layer.Control 0) (λ z. absurd (not_over e z)) (λ n l. refl)
           (λ n l. absurd (omega (arith, ltb-true places (2 * length s.shows + 1) k, b.shows))))
       go false e false k =
           subst
@@ -434,7 +433,7 @@ module _ {m : ℕ} {rows : List PlanRow} (one : 1 ≤ m) (st : Stands m rows) {s
   -- A report or a strike: the bench tells whether it is taken.
   end_step
       : (call : Call) (c : ℕ) → asks call ≡ 0 → ((2 ≤ tells call) × (tells call ≤ 3)) → ended_on call ≡ c
-      → ((r : ℕ) → c < m → get_or s.shows c None ≡ Some r → Agrees m rows (settle s call Done) (tell h call Done))
+      → ((r : ℕ) → c < m → get_or s.shows c None ≡ Some r → Agrees m rows (settle s call (Ok Done)) (tell h call (Ok Done)))
       → Stepped m rows s h call (answered (λ _. Done) (when_loaded s (from_bench (bench_end s.shows c))))
   end_step call c ask kind on taken =
       when_loaded_is call (λ _. Done) (from_bench (bench_end s.shows c))
@@ -448,18 +447,18 @@ module _ {m : ℕ} {rows : List PlanRow} (one : 1 ≤ m) (st : Stands m rows) {s
           → Stepped m rows s h call
           (answered {X = Unit {0}} (λ _. Done) (from_bench (cond x (by_state o (Err (Idle c)) (Ok tt)) (Err (NoController c)))))
       go false e o k =
-          plain call (refuse 11 6 c) refl (λ z. omega arith) ag (no_question call (refuse 11 6 c) ask)
-          (end_command call c (refuse 11 6 c) kind on (λ l. refl)
+          plain call (refuse reason.Beyond layer.Bench c) refl (λ z. omega arith) ag (no_question call (refuse reason.Beyond layer.Bench c) ask)
+          (end_command call c (refuse reason.Beyond layer.Bench c) kind on (λ l. refl)
           (λ l z. absurd (omega (arith, ltb-false c (length s.shows) e, b.shows)))
           (λ j z. busy_not ag c (get_or_past s.shows c None (ltb-false c (length s.shows) e)) j z))
       go true e None k =
-          plain call (refuse 12 6 c) refl (λ z. omega arith) ag (no_question call (refuse 12 6 c) ask)
-          (end_command call c (refuse 12 6 c) kind on
+          plain call (refuse reason.Idle layer.Bench c) refl (λ z. omega arith) ag (no_question call (refuse reason.Idle layer.Bench c) ask)
+          (end_command call c (refuse reason.Idle layer.Bench c) kind on
           (λ l. absurd (omega (arith, ltb-true c (length s.shows) e, b.shows))) (λ l z. refl) (λ j z. busy_not ag c k j z))
       go true e (Some r) k =
-          plain call Done refl (λ z. omega arith) (taken r (omega (arith, ltb-true c (length s.shows) e, b.shows)) k)
-          (no_question call Done ask)
-          (end_command call c Done kind on
+          plain call (Ok Done) refl (λ z. omega arith) (taken r (omega (arith, ltb-true c (length s.shows) e, b.shows)) k)
+          (no_question call (Ok Done) ask)
+          (end_command call c (Ok Done) kind on
           (λ l. absurd (omega (arith, ltb-true c (length s.shows) e, b.shows))) (λ l z. idle_not ag c r k z) (λ j z. refl))
 
   step_report : (c : ℕ) → Stepped m rows s h (Report c) (answer s (Report c))
@@ -498,16 +497,16 @@ module _ {m : ℕ} {rows : List PlanRow} (one : 1 ≤ m) (st : Stands m rows) {s
           → Stepped m rows s h Return
           (answered {X = Unit {0}} (λ _. Done) (cond x (Err Everyday) (cond (is_some o) (Err Busy) (Ok tt))))
       go true k o e =
-          plain Return (refuse 13 5 0) refl (λ z. omega arith) ag (no_question Return (refuse 13 5 0) refl)
-          (return_command (refuse 13 5 0) (λ z. refl) (λ n c j is. absurd (everyday k n)) (λ n f. absurd (everyday k n)))
+          plain Return (refuse reason.Everyday layer.Control 0) refl (λ z. omega arith) ag (no_question Return (refuse reason.Everyday layer.Control 0) refl)
+          (return_command (refuse reason.Everyday layer.Control 0) (λ z. refl) (λ n c j is. absurd (everyday k n)) (λ n f. absurd (everyday k n)))
       go false k (Some c) e =
-          plain Return (refuse 14 5 0) refl (λ z. omega arith) ag (no_question Return (refuse 14 5 0) refl)
-          (return_command (refuse 14 5 0) (λ z. absurd (critical k z)) (λ n c j is. refl)
+          plain Return (refuse reason.SomeBusy layer.Control 0) refl (λ z. omega arith) ag (no_question Return (refuse reason.SomeBusy layer.Control 0) refl)
+          (return_command (refuse reason.SomeBusy layer.Control 0) (λ z. absurd (critical k z)) (λ n c j is. refl)
           (λ n f.
           absurd (both_ways (busy s c) (ap is_some (shown_is b c ∙ ap row_of (f c)))
           (first_some (length s.shows) (busy s) c e).1)))
       go false k None e =
-          plain Return Done refl (λ z. omega arith)
+          plain Return (Ok Done) refl (λ z. omega arith)
           (record {
             booked = book_return b;
             timely = record {
@@ -518,8 +517,8 @@ module _ {m : ℕ} {rows : List PlanRow} (one : 1 ≤ m) (st : Stands m rows) {s
               jobs = λ c j k p. none_some j (sym (each_idle ag e c) ∙ k);
             };
           })
-          (no_question Return Done refl)
-          (return_command Done (λ z. absurd (critical k z)) (λ n c j is. none_some j (sym (each_idle ag e c) ∙ is)) (λ n f. refl))
+          (no_question Return (Ok Done) refl)
+          (return_command (Ok Done) (λ z. absurd (critical k z)) (λ n c j is. none_some j (sym (each_idle ag e c) ∙ is)) (λ n f. refl))
 
   -- The question what a controller does.
   step_controller : (c : ℕ) → Stepped m rows s h (Controller c) (answer s (Controller c))
@@ -534,25 +533,25 @@ module _ {m : ℕ} {rows : List PlanRow} (one : 1 ≤ m) (st : Stands m rows) {s
           → Stepped m rows s h (Controller c)
           (answered Shown (from_bench (cond x (Ok (get_or s.shows c None)) (Err (NoController c)))))
       go true e =
-          plain (Controller c) (Shown (get_or s.shows c None)) refl (λ z. omega arith) ag
+          plain (Controller c) (Ok (Shown (get_or s.shows c None))) refl (λ z. omega arith) ag
           (record {
-            state = λ d k l. ap Shown (shown_is ag.booked c ∙ ap (λ (i : ℕ). row_of (h.running i)) (same d k));
+            state = λ d k l. ap (λ x. Ok (Shown x)) (shown_is ag.booked c ∙ ap (λ (i : ℕ). row_of (h.running i)) (same d k));
             no_state = λ d k l. absurd (omega (arith, same d k, ltb-true c (length s.shows) e, ag.booked.shows));
             counts = λ r k l. absurd (omega (arith, ap asks k));
             no_counts = λ r k l. absurd (omega (arith, ap asks k));
             standing = λ k. absurd (omega (arith, ap asks k));
           })
-          (no_command (Controller c) (Shown (get_or s.shows c None)) refl)
+          (no_command (Controller c) (Ok (Shown (get_or s.shows c None))) refl)
       go false e =
-          plain (Controller c) (refuse 11 6 c) refl (λ z. omega arith) ag
+          plain (Controller c) (refuse reason.Beyond layer.Bench c) refl (λ z. omega arith) ag
           (record {
             state = λ d k l. absurd (omega (arith, same d k, ltb-false c (length s.shows) e, ag.booked.shows));
-            no_state = λ d k l. ap (refuse 11 6) (same d k);
+            no_state = λ d k l. ap (refuse reason.Beyond layer.Bench) (same d k);
             counts = λ r k l. absurd (omega (arith, ap asks k));
             no_counts = λ r k l. absurd (omega (arith, ap asks k));
             standing = λ k. absurd (omega (arith, ap asks k));
           })
-          (no_command (Controller c) (refuse 11 6 c) refl)
+          (no_command (Controller c) (refuse reason.Beyond layer.Bench c) refl)
 
   -- The question for the counts of a row.
   step_row : (r : ℕ) → Stepped m rows s h (Row r) (answer s (Row r))
@@ -570,41 +569,41 @@ module _ {m : ℕ} {rows : List PlanRow} (one : 1 ≤ m) (st : Stands m rows) {s
           : (x : Bool) → ltb r (length s.rows) ≡ x
           → Stepped m rows s h (Row r) (answered Counted (cond x (Ok (get_or s.counts r none_yet)) (Err (NoRow r))))
       go true e =
-          plain (Row r) (Counted (get_or s.counts r none_yet)) refl (λ z. omega arith) ag
+          plain (Row r) (Ok (Counted (get_or s.counts r none_yet))) refl (λ z. omega arith) ag
           (record {
             state = λ d k l. absurd (omega (arith, ap asks k));
             no_state = λ d k l. absurd (omega (arith, ap asks k));
             counts = λ q k l.
-                ap Counted (ag.booked.tallies r (omega (arith, ltb-true r (length s.rows) e, many))
+                ap (λ x. Ok (Counted x)) (ag.booked.tallies r (omega (arith, ltb-true r (length s.rows) e, many))
                 ∙ ap (counts_of h) (same q k));
             no_counts = λ q k l. absurd (omega (arith, same q k, ltb-true r (length s.rows) e, many));
             standing = λ k. absurd (omega (arith, ap asks k));
           })
-          (no_command (Row r) (Counted (get_or s.counts r none_yet)) refl)
+          (no_command (Row r) (Ok (Counted (get_or s.counts r none_yet))) refl)
       go false e =
-          plain (Row r) (refuse 11 5 r) refl (λ z. omega arith) ag
+          plain (Row r) (refuse reason.Beyond layer.Control r) refl (λ z. omega arith) ag
           (record {
             state = λ d k l. absurd (omega (arith, ap asks k));
             no_state = λ d k l. absurd (omega (arith, ap asks k));
             counts = λ q k l. absurd (omega (arith, same q k, ltb-false r (length s.rows) e, many));
-            no_counts = λ q k l. ap (refuse 11 5) (same q k);
+            no_counts = λ q k l. ap (refuse reason.Beyond layer.Control) (same q k);
             standing = λ k. absurd (omega (arith, ap asks k));
           })
-          (no_command (Row r) (refuse 11 5 r) refl)
+          (no_command (Row r) (refuse reason.Beyond layer.Control r) refl)
 
   -- The question how things stand.
   step_status : Stepped m rows s h Status (answer s Status)
   step_status =
       when_loaded_is Status Stood (Ok now)
-      (plain Status (Stood now) refl (λ z. omega arith) ag
+      (plain Status (Ok (Stood now)) refl (λ z. omega arith) ag
       (record {
         state = λ d k l. absurd (omega (arith, ap asks k));
         no_state = λ d k l. absurd (omega (arith, ap asks k));
         counts = λ q k l. absurd (omega (arith, ap asks k));
         no_counts = λ q k l. absurd (omega (arith, ap asks k));
-        standing = λ k. ap Stood whole;
+        standing = λ k. ap (λ x. Ok (Stood x)) whole;
       })
-      (no_command Status (Stood now) refl))
+      (no_command Status (Ok (Stood now)) refl))
     where
       b : Booked m rows s h
       b = ag.booked

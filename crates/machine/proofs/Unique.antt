@@ -1,5 +1,5 @@
 -- The laws leave nothing open: they fix each answer, and so the whole history.
-use Rattle.std.proofs.Common.{◌≡◌, ℕ, ◌+◌, ◌*◌, ◌^◌, ◌<◌, ◌≤◌, Bool, true, false, cond, eqb, ◌⊎◌, List, [], ◌∷◌, ◌++◌, length, get_or, is_some, Some, None, Option, sym, refl, ap, ◌∙◌, subst, ap₂, subst₂, inl, inr, ⊎_elim, arith}
+use Rattle.std.proofs.Common.{◌≡◌, ℕ, ◌+◌, ◌*◌, ◌^◌, ◌<◌, ◌≤◌, Bool, true, false, cond, eqb, ◌⊎◌, List, [], ◌∷◌, ◌++◌, length, get_or, is_some, Some, None, Ok, Option, sym, refl, ap, ◌∙◌, subst, ap₂, subst₂, inl, inr, ⊎_elim, arith}
 use Rattle.std.proofs.lemmas.List.{append_assoc, same_lists, get_or_default}
 use Rattle.std.proofs.lemmas.Bool.{cases_eq, cases_lt, cases_Bool, eqb-true, eq-eqb, and_parts, and_from, both_ways}
 use Rattle.planner.specs.Standing.{Stands}
@@ -10,12 +10,11 @@ use Rattle.machine.specs.declared.event.Event.TheVariants.{Switch, Cut, Start}
 use Rattle.machine.specs.declared.event.Written.{Written}
 use Rattle.machine.specs.declared.entry.Call.{Call}
 use Rattle.machine.specs.declared.entry.Call.TheVariants.{Tick, Report, Strike, Return, Controller, Row, Status}
-use Rattle.machine.specs.declared.entry.Answer.{Answer}
-use Rattle.machine.specs.declared.entry.Answer.TheVariants.{Ticked}
+use Rattle.machine.specs.declared.entry.Reply.TheVariants.{Ticked}
 use Rattle.machine.specs.declared.entry.Entry.{Entry}
 use Rattle.machine.specs.Below.{first_below}
 use Rattle.machine.specs.Plans.{Due}
-use Rattle.machine.specs.Entries.{Job, written, events_of, entry}
+use Rattle.machine.specs.Entries.{Answer, Job, written, events_of, entry}
 use Rattle.machine.specs.Machine.{State, busy, answer, after, run, at_end, loaded}
 use Rattle.machine.specs.History.{
   History,
@@ -200,9 +199,9 @@ module _ (rows : List PlanRow) (h : Told) where
 record Lawful (m : ℕ) (rows : List PlanRow) (h : Told) (call : Call) (a : Answer) : Type 0 where
   answers : Answers m rows h call a
   commands : Commands m h call a
-  on_time : (w : Written) → a ≡ Ticked w → OnTime rows h (events_of w)
-  overruns : (w : Written) → a ≡ Ticked w → Overruns rows h (events_of w)
-  in_order : (w : Written) → a ≡ Ticked w → InOrder m h (events_of w)
+  on_time : (w : Written) → a ≡ Ok (Ticked w) → OnTime rows h (events_of w)
+  overruns : (w : Written) → a ≡ Ok (Ticked w) → Overruns rows h (events_of w)
+  in_order : (w : Written) → a ≡ Ok (Ticked w) → InOrder m h (events_of w)
   padded : Padded h call a
 
 -- No job runs, or one does.
@@ -244,12 +243,12 @@ module _ {m : ℕ} {rows : List PlanRow} {h : Told} where
       over : h.ticks ≡ 2 ^ 40 → a ≡ b
       over e = x.commands.tick_over places refl e ∙ sym (y.commands.tick_over places refl e)
 
-      taken : (w v : Written) → a ≡ Ticked w → b ≡ Ticked v → a ≡ b
+      taken : (w v : Written) → a ≡ Ok (Ticked w) → b ≡ Ok (Ticked v) → a ≡ b
       taken w v p q =
           let es : events_of w ≡ events_of v =
           ordered_same m h (events_of w) (events_of v) (x.in_order w p) (y.in_order v q)
           (same_times rows h (events_of w) (events_of v) (x.overruns w p) (y.overruns v q) (x.on_time w p) (y.on_time v q)) in
-          p ∙ ap Ticked (x.padded w p ∙ ap written es ∙ sym (y.padded v q)) ∙ sym q
+          p ∙ ap (λ x. Ok (Ticked x)) (x.padded w p ∙ ap written es ∙ sym (y.padded v q)) ∙ sym q
 
       on : (h.ticks ≡ 2 ^ 40 → ⊥) → a ≡ b
       on n =

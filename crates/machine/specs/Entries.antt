@@ -1,14 +1,16 @@
 -- A call with its answer makes an entry. What answers are made of.
-use Rattle.std.specs.Prelude.{ℕ, zero, suc, ◌-◌, List, ◌++◌, length, take, replicate}
+use Rattle.std.specs.Prelude.{ℕ, zero, suc, ◌-◌, List, ◌++◌, length, take, replicate, Err, Result}
 use Rattle.tasks.specs.Refusals.{refusal}
+use Rattle.tasks.specs.declared.reason.Layer.{Layer}
+use Rattle.tasks.specs.declared.reason.Reason.{Reason}
+use Rattle.tasks.specs.declared.refusal.Refusal.{Refusal}
 use Rattle.tasks.specs.declared.mode.Mode.{Mode}
 use Rattle.tasks.specs.declared.mode.Mode.TheVariants.{Everyday, Critical}
 use Rattle.machine.specs.declared.event.Event.{Event}
 use Rattle.machine.specs.declared.event.Event.TheVariants.{Switch}
 use Rattle.machine.specs.declared.event.Written.{Written}
 use Rattle.machine.specs.declared.entry.Call.{Call}
-use Rattle.machine.specs.declared.entry.Answer.{Answer}
-use Rattle.machine.specs.declared.entry.Answer.TheVariants.{Refused}
+use Rattle.machine.specs.declared.entry.Reply.{Reply}
 use Rattle.machine.specs.declared.entry.Entry.{Entry}
 
 -- A job: its row, and the instant at which it started.
@@ -24,9 +26,13 @@ written es = record { count = length es; events = es ++ replicate (17 - length e
 abbrev pub events_of : Written → List Event
 events_of w = take w.count w.events
 
--- Sent back with this number, layer and place.
-abbrev pub refuse : ℕ → ℕ → ℕ → Answer
-refuse number layer place = Refused (refusal number layer place)
+-- What came of a call: what is told where it is accepted, or its refusal.
+abbrev pub Answer : Type 0
+Answer = Result Reply Refusal
+
+-- Sent back with this reason, layer and place.
+abbrev pub refuse : Reason → Layer → ℕ → Answer
+refuse reason layer place = Err (refusal reason layer place)
 
 -- The mode with this number.
 abbrev pub mode_of : ℕ → Mode

@@ -1,13 +1,12 @@
 -- What a history tells by itself, read off its entries one after the other, the oldest first. Nothing here looks at the machine.
-use Rattle.std.specs.Prelude.{ℕ, ◌+◌, Bool, true, false, cond, ◌&&◌, List, [], ◌∷◌, Some, None, Option, ◌==◌}
+use Rattle.std.specs.Prelude.{ℕ, ◌+◌, Bool, true, false, cond, ◌&&◌, List, [], ◌∷◌, Some, None, Ok, Err, Option, ◌==◌}
 use Rattle.machine.specs.declared.event.Event.{Event}
 use Rattle.machine.specs.declared.event.Event.TheVariants.{Switch, Cut, Start}
 use Rattle.machine.specs.declared.entry.Call.{Call}
 use Rattle.machine.specs.declared.entry.Call.TheVariants.{Tick, Report, Strike, Return, Controller, Row, Status}
-use Rattle.machine.specs.declared.entry.Answer.{Answer}
-use Rattle.machine.specs.declared.entry.Answer.TheVariants.{Ticked, Done, Shown, Counted, Stood, Refused}
+use Rattle.machine.specs.declared.entry.Reply.TheVariants.{Ticked, Done, Shown, Counted, Stood}
 use Rattle.machine.specs.declared.entry.Entry.{Entry}
-use Rattle.machine.specs.Entries.{Job, events_of}
+use Rattle.machine.specs.Entries.{Answer, Job, events_of}
 
 abbrev pub History : Type 0
 History = List Entry
@@ -139,12 +138,12 @@ tell_done h (Row r) = h
 tell_done h Status = h
 
 abbrev pub tell : Told → Call → Answer → Told
-tell h call (Ticked w) = tell_tick (tell_events h (events_of w))
-tell h call Done = tell_done h call
-tell h call (Shown x) = h
-tell h call (Counted x) = h
-tell h call (Stood x) = h
-tell h call (Refused x) = h
+tell h call (Ok (Ticked w)) = tell_tick (tell_events h (events_of w))
+tell h call (Ok Done) = tell_done h call
+tell h call (Ok (Shown x)) = h
+tell h call (Ok (Counted x)) = h
+tell h call (Ok (Stood x)) = h
+tell h call (Err x) = h
 
 abbrev pub tell_all : Told → History → Told
 tell_all h [] = h

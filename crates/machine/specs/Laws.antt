@@ -1,5 +1,5 @@
 -- The laws over a history, for a plan of these rows on a bench of m controllers.
-use Rattle.std.specs.Prelude.{◌≡◌, ℕ, ◌+◌, ◌*◌, ◌^◌, ◌<◌, ◌≤◌, ◌⊎◌, ◌↔◌, List, ◌∷◌, ◌++◌, length, is_some, Some, None, Option, ◌≢◌, slice_index_or}
+use Rattle.std.specs.Prelude.{◌≡◌, ℕ, ◌+◌, ◌*◌, ◌^◌, ◌<◌, ◌≤◌, ◌⊎◌, ◌↔◌, List, ◌∷◌, ◌++◌, length, is_some, Some, None, Ok, Err, Option, ◌≢◌, slice_index_or}
 use Rattle.planner.specs.declared.row.Row.{Row as PlanRow}
 use Rattle.machine.specs.declared.entry.Counts.{Counts}
 use Rattle.machine.specs.declared.entry.Standing.{Standing}
@@ -14,9 +14,10 @@ use Rattle.tasks.specs.Tasks.{budget}
 use Rattle.planner.specs.Rows.{start}
 use Rattle.std.specs.List.{slice_get}
 use Rattle.machine.specs.declared.event.Written.{Written}
-use Rattle.machine.specs.declared.entry.Answer.{Answer}
-use Rattle.machine.specs.declared.entry.Answer.TheVariants.{Ticked, Done, Shown, Counted, Stood, Refused}
-use Rattle.machine.specs.Entries.{Job, written, events_of, refuse, mode_of, entry}
+use Rattle.machine.specs.declared.entry.Reply.TheVariants.{Ticked, Done, Shown, Counted, Stood}
+use Rattle.tasks.specs.declared.reason.Layer.TheVariants as layer
+use Rattle.tasks.specs.declared.reason.Reason.TheVariants as reason
+use Rattle.machine.specs.Entries.{Answer, Job, written, events_of, refuse, mode_of, entry}
 use Rattle.machine.specs.History.{History, Told, told, tell_events, times}
 
 -- P holds of each call with its answer, and of what the history before it tells
@@ -25,7 +26,7 @@ AtEachCall h P = (before after : History) (call : Call) (a : Answer) → h ≡ b
 
 -- P holds of the events of each accepted tick, and of what the history before it tells
 abbrev pub AtEachTick : History → (Told → List Event → Type 0) → Type 0
-AtEachTick h P = AtEachCall h (λ before call a. (w : Written) → a ≡ Ticked w → P before (events_of w))
+AtEachTick h P = AtEachCall h (λ before call a. (w : Written) → a ≡ Ok (Ticked w) → P before (events_of w))
 
 -- On time. The instant of the tick is the number of ticks before it; the mode in force is the one that its events leave.
 pub record OnTime (rows : List PlanRow) (before : Told) (es : List Event) : Type 0 where
@@ -71,7 +72,7 @@ FewEvents m before es = length es ≤ 2 * m + 1
 
 -- The places of an answer past its events hold a switch.
 abbrev pub Padded : Told → Call → Answer → Type 0
-Padded before call a = (w : Written) → a ≡ Ticked w → w ≡ written (events_of w)
+Padded before call a = (w : Written) → a ≡ Ok (Ticked w) → w ≡ written (events_of w)
 
 -- Idle then. Where a start event is written, no job runs on its controller, after the events written before it.
 abbrev pub IdleThen : Told → List Event → Type 0
@@ -80,7 +81,7 @@ IdleThen before es =
 
 -- No call is sent back because a start found its controller busy.
 abbrev pub NeverBusy : Told → Call → Answer → Type 0
-NeverBusy before call a = (refusal : Refusal) → a ≡ Refused refusal → refusal.number ≢ 17
+NeverBusy before call a = (refusal : Refusal) → a ≡ Err refusal → refusal.reason ≢ reason.Busy
 
 -- In time. A job that still runs after the tick of instant t has t + S < its start instant + D.
 abbrev pub InTime : List PlanRow → Told → List Event → Type 0
@@ -119,23 +120,23 @@ standing_of m h = record {
 
 -- Answers. Each question is answered by what the history before it tells.
 pub record Answers (m : ℕ) (rows : List PlanRow) (before : Told) (call : Call) (a : Answer) : Type 0 where
-  pub state : (c : ℕ) → call ≡ Controller c → c < m → a ≡ Shown (row_of (before.running c))
-  pub no_state : (c : ℕ) → call ≡ Controller c → m ≤ c → a ≡ refuse 11 6 c
-  pub counts : (r : ℕ) → call ≡ Row r → r < length rows → a ≡ Counted (counts_of before r)
-  pub no_counts : (r : ℕ) → call ≡ Row r → length rows ≤ r → a ≡ refuse 11 5 r
-  pub standing : call ≡ Status → a ≡ Stood (standing_of m before)
+  pub state : (c : ℕ) → call ≡ Controller c → c < m → a ≡ Ok (Shown (row_of (before.running c)))
+  pub no_state : (c : ℕ) → call ≡ Controller c → m ≤ c → a ≡ refuse reason.Beyond layer.Bench c
+  pub counts : (r : ℕ) → call ≡ Row r → r < length rows → a ≡ Ok (Counted (counts_of before r))
+  pub no_counts : (r : ℕ) → call ≡ Row r → length rows ≤ r → a ≡ refuse reason.Beyond layer.Control r
+  pub standing : call ≡ Status → a ≡ Ok (Stood (standing_of m before))
 
 -- Commands. Each is accepted, or refused with its reason, by what the history before it tells.
 pub record Commands (m : ℕ) (before : Told) (call : Call) (a : Answer) : Type 0 where
-  pub tick_over : (places : ℕ) → call ≡ Tick places → before.ticks ≡ 2 ^ 40 → a ≡ refuse 16 5 0
-  pub tick_short : (places : ℕ) → call ≡ Tick places → (before.ticks ≢ 2 ^ 40) → places < 2 * m + 1 → a ≡ refuse 15 5 0
-  pub tick_taken : (places : ℕ) → call ≡ Tick places → (before.ticks ≢ 2 ^ 40) → 2 * m + 1 ≤ places → (w : Written) × (a ≡ Ticked w)
-  pub end_beyond : (c : ℕ) → (call ≡ Report c) ⊎ (call ≡ Strike c) → m ≤ c → a ≡ refuse 11 6 c
-  pub end_idle : (c : ℕ) → (call ≡ Report c) ⊎ (call ≡ Strike c) → c < m → before.running c ≡ None → a ≡ refuse 12 6 c
-  pub end_taken : (c : ℕ) → (call ≡ Report c) ⊎ (call ≡ Strike c) → (j : Job) → before.running c ≡ Some j → a ≡ Done
-  pub return_everyday : call ≡ Return → before.mode ≡ 0 → a ≡ refuse 13 5 0
-  pub return_busy : call ≡ Return → (before.mode ≢ 0) → (c : ℕ) (j : Job) → before.running c ≡ Some j → a ≡ refuse 14 5 0
-  pub return_taken : call ≡ Return → (before.mode ≢ 0) → ((c : ℕ) → before.running c ≡ None) → a ≡ Done
+  pub tick_over : (places : ℕ) → call ≡ Tick places → before.ticks ≡ 2 ^ 40 → a ≡ refuse reason.Over layer.Control 0
+  pub tick_short : (places : ℕ) → call ≡ Tick places → (before.ticks ≢ 2 ^ 40) → places < 2 * m + 1 → a ≡ refuse reason.Places layer.Control 0
+  pub tick_taken : (places : ℕ) → call ≡ Tick places → (before.ticks ≢ 2 ^ 40) → 2 * m + 1 ≤ places → (w : Written) × (a ≡ Ok (Ticked w))
+  pub end_beyond : (c : ℕ) → (call ≡ Report c) ⊎ (call ≡ Strike c) → m ≤ c → a ≡ refuse reason.Beyond layer.Bench c
+  pub end_idle : (c : ℕ) → (call ≡ Report c) ⊎ (call ≡ Strike c) → c < m → before.running c ≡ None → a ≡ refuse reason.Idle layer.Bench c
+  pub end_taken : (c : ℕ) → (call ≡ Report c) ⊎ (call ≡ Strike c) → (j : Job) → before.running c ≡ Some j → a ≡ Ok Done
+  pub return_everyday : call ≡ Return → before.mode ≡ 0 → a ≡ refuse reason.Everyday layer.Control 0
+  pub return_busy : call ≡ Return → (before.mode ≢ 0) → (c : ℕ) (j : Job) → before.running c ≡ Some j → a ≡ refuse reason.SomeBusy layer.Control 0
+  pub return_taken : call ≡ Return → (before.mode ≢ 0) → ((c : ℕ) → before.running c ≡ None) → a ≡ Ok Done
 
 -- The bench shows a controller busy with a row exactly when the history has a job of that row running there.
 pub record BenchShows (m : ℕ) (h : Told) (shows : List (Option ℕ)) : Type 0 where

@@ -13,15 +13,15 @@ use Rattle.planner.specs.declared.row.Row.{Row as PlanRow}
 use Rattle.benches.specs.Commands.{States, end_answer as bench_end, state_answer as bench_state}
 use Rattle.machine.specs.declared.entry.Counts.{Counts}
 use Rattle.machine.specs.declared.entry.Standing.{Standing}
-use Rattle.machine.specs.declared.entry.Answer.{Answer}
-use Rattle.machine.specs.declared.entry.Answer.TheVariants.{Ticked, Done, Shown, Counted, Stood, Refused}
+use Rattle.machine.specs.declared.entry.Reply.{Reply}
+use Rattle.machine.specs.declared.entry.Reply.TheVariants.{Ticked, Done, Shown, Counted, Stood}
 use Rattle.machine.specs.declared.entry.Entry.{Entry}
 use Rattle.machine.specs.declared.entry.Call.{Call}
 use Rattle.machine.specs.declared.entry.Call.TheVariants.{Tick, Report, Strike, Return, Controller, Row, Status}
 use Rattle.machine.specs.declared.event.Event.{Event}
 use Rattle.machine.specs.declared.event.Event.TheVariants.{Switch, Cut, Start}
 use Rattle.machine.specs.Below.{first_below, count_below, each_below}
-use Rattle.machine.specs.Entries.{Job, written, events_of, mode_of, entry}
+use Rattle.machine.specs.Entries.{Answer, Job, written, events_of, mode_of, entry}
 
 -- controllers, rows: the loaded plan's, and none before a load. shows: by controller, what the bench shows. since: by
 -- controller, the instant at which the present job started. counts: by row.
@@ -218,10 +218,10 @@ standing_answer s = when_loaded s (Ok (record {
   lowest = first_below (length s.shows) (busy s);
 }))
 
--- An answer as a history has it: a refusal has its number, layer and place.
-abbrev pub answered : {X : Type 0} → (X → Answer) → Result X ControlFault → Answer
-answered taken (Ok x) = taken x
-answered taken (Err fault) = Refused (control_refusal fault)
+-- An answer as a history has it: a refusal has its reason, layer and place.
+abbrev pub answered : {X : Type 0} → (X → Reply) → Result X ControlFault → Answer
+answered taken (Ok x) = Ok (taken x)
+answered taken (Err fault) = Err (control_refusal fault)
 
 -- The answer to a call.
 abbrev pub answer : State → Call → Answer
@@ -353,12 +353,12 @@ done s Status = s
 
 -- What a call with this answer leaves.
 abbrev pub settle : State → Call → Answer → State
-settle s call (Ticked w) = passed (acts s (events_of w))
-settle s call Done = done s call
-settle s call (Shown x) = s
-settle s call (Counted x) = s
-settle s call (Stood x) = s
-settle s call (Refused x) = s
+settle s call (Ok (Ticked w)) = passed (acts s (events_of w))
+settle s call (Ok Done) = done s call
+settle s call (Ok (Shown x)) = s
+settle s call (Ok (Counted x)) = s
+settle s call (Ok (Stood x)) = s
+settle s call (Err x) = s
 
 -- What a call leaves.
 abbrev pub after : State → Call → State

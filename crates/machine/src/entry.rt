@@ -14,7 +14,7 @@ pub enum Call {
 }
 
 // How often a row started, and how its jobs ended: by a report, or by a cut or a strike.
-#[derive(Clone, Copy)]
+#[derive(Clone, Copy, Default)]
 pub struct Counts {
     pub starts: u64,
     pub reports: u64,
@@ -31,19 +31,21 @@ pub struct Standing {
     pub lowest: Option<u8>,
 }
 
-// What came of a call.
+// What is told of an accepted call.
 #[derive(Clone, Copy)]
-pub enum Answer {
-    // An accepted tick, with its events.
+pub enum Reply {
+    // The events of a tick.
     Ticked(Written),
-    // An accepted report, strike or return.
+    // A report, a strike or a return is carried out.
     Done,
     // The row that the controller is busy with, if it is.
     Shown(Option<u8>),
     Counted(Counts),
     Stood(Standing),
-    Refused(Refusal),
 }
+
+// What came of a call.
+pub type Answer = Result<Reply, Refusal>;
 
 // A call with its answer.
 #[derive(Clone, Copy)]

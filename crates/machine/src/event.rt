@@ -8,7 +8,8 @@ pub enum Event {
     Start { controller: u8, row: u8 },
 }
 
-// The events of one tick: the first `count` places. A switch stands in each other place.
+// The events of one tick: the first `count` places. A switch stands in each other place. An array with its count, since a
+// bench's memory is fixed.
 #[derive(Clone, Copy)]
 pub struct Written {
     pub count: u8,

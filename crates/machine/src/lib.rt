@@ -5,6 +5,6 @@ mod entry;
 mod event;
 mod theorems;
 
-pub use entry::{Answer, Call, Counts, Entry, Standing};
+pub use entry::{Answer, Call, Counts, Entry, Reply, Standing};
 pub use event::{Event, Written};
 pub use theorems::{laws_leave_nothing_open, runs_keep_the_laws};

@@ -11,13 +11,6 @@ use Rattle.planner.specs.Rows.{no_row}
 abbrev pub no_task : Task
 no_task = no_row.task
 
--- std's lemmas by the names that the crates above use
-pub nth_inside : {X : Type 0} (xs : List X) (k : ℕ) (x : X) → slice_get xs k ≡ Some x → k < length xs
-nth_inside xs k x e = slice_get_within xs k x e
-
-pub nth_is : {X : Type 0} (xs : List X) (k : ℕ) (d x : X) → slice_get xs k ≡ Some x → get_or xs k d ≡ x
-nth_is xs k d x e = get_or_from_slice_get xs k x d e
-
 -- what stands in a list with one more at its end
 pub nth_push
     : {X : Type 0} (xs : List X) (y : X) (i : ℕ) (x : X)

@@ -36,7 +36,7 @@ impl<'a> Search<'a> {
         ensures task { result.task.now ≡ task.now }
     {
         let mut divisors = [0; 64];
-        // By index: of an array written through `iter_mut().zip(..)` a proof knows nothing, and `array::from_fn` was not proved.
+        // By index: of what is written through `iter_mut().zip(placed)` a proof knows nothing, and `array::from_fn` was not proved.
         for (i, row) in placed.iter().enumerate() {
             divisors[i] = gcd(u32::from(task.period), u32::from(row.task.period));
         }

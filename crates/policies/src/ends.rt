@@ -6,7 +6,6 @@ ghost use Rattle.policies.specs.Arranged.{level_arranged};
 
 use crate::count::Count;
 use crate::policy::Policy;
-use crate::walk::{down, up};
 
 // The controllers from 0 upward for critical tasks, and from the last downward for everyday tasks.
 #[derive(Drop)]
@@ -40,9 +39,9 @@ impl Policy for Ends {
 
     fn place(&self, level: u8, k: u8) -> Option<u8> {
         if level == 0 {
-            down(self.count, k)
+            self.count.down(k)
         } else {
-            up(self.count, k)
+            self.count.up(k)
         }
     }
 

@@ -6,7 +6,6 @@ ghost use Rattle.policies.specs.Arranged.{front_lawful};
 
 use crate::count::Count;
 use crate::policy::Policy;
-use crate::walk::up;
 
 // The controllers from 0 upward, for each level.
 #[derive(Drop)]
@@ -35,7 +34,7 @@ impl Policy for Front {
     }
 
     fn place(&self, _level: u8, k: u8) -> Option<u8> {
-        up(self.count, k)
+        self.count.up(k)
     }
 
     fn tell(&mut self, _level: u8, _controller: u8) {}

@@ -6,7 +6,6 @@ ghost use Rattle.policies.specs.Arranged.{round_arranged};
 
 use crate::count::Count;
 use crate::policy::Policy;
-use crate::walk::around;
 
 // The controllers round from the one after that last told, at first from 0.
 #[derive(Drop)]
@@ -41,7 +40,7 @@ impl Policy for Round {
     }
 
     fn place(&self, _level: u8, k: u8) -> Option<u8> {
-        around(self.count, self.first, k)
+        self.count.around(self.first, k)
     }
 
     fn tell(&mut self, _level: u8, controller: u8) {

@@ -1,44 +1,48 @@
-ghost use Rattle.std.specs.Prelude.{◌≡◌, ◌+◌, ◌*◌, ◌≤◌, ◌++◌, length, take, drop, IfOk};
+ghost use Rattle.std.specs.Prelude.{◌≡◌, ◌+◌, ◌*◌, ◌≤◌, ◌++◌, length, drop, IfOk};
 ghost use Rattle.planner.specs.Plans.{rows_of};
 ghost use Rattle.printout.specs.Texts.{TextsTellQuotes, Wrote, appendix_text, row_text};
 ghost use Rattle.std.specs.List.{flat_map};
 
-use crate::line::put_line;
+use crate::kind::Kind;
+use crate::line::{put_line, two_bytes};
 use planner::{Plan, Row};
 use tasks::AppendixFault;
 
 // The bytes of the line of a row.
 const ROW_BYTES: usize = 15;
 
-// The bytes of the opening and the close.
-const FRAME_BYTES: usize = 10;
+// The bytes of the opening and of the close.
+const OPENING_BYTES: usize = 7;
 
-// Writes the line of a row from this place on.
-fn put_row(row: &Row, out: &mut [u8], at: usize)
-    requires { at + 15 ≤ length out.old }
-    ensures after { out.new ≡ take at out.old ++ (row_text row.now ++ drop (at + 15) out.old) }
+const CLOSE_BYTES: usize = 3;
+
+// Writes the line of a row at the beginning of these places.
+fn put_row(row: &Row, out: &mut [u8])
+    requires { 15 ≤ length out.old }
+    ensures after { out.new ≡ row_text row.now ++ drop 15 out.old }
 {
-    let everyday = row.starts.everyday;
-    let critical = row.starts.critical;
+    let [everyday, everyday_low] = two_bytes(row.starts.everyday);
+    let [critical, critical_low] = two_bytes(row.starts.critical);
     let bytes = [
-        5,
+        Kind::Row as u8,
         row.task.id,
         row.controller,
-        (everyday / 256) as u8,
-        (everyday % 256) as u8,
-        (critical / 256) as u8,
-        (critical % 256) as u8,
+        everyday,
+        everyday_low,
+        critical,
+        critical_low,
     ];
-    put_line(&bytes, out, at);
+    put_line(&bytes, out);
 }
 
-// Writes the lines of the rows from this place on.
-fn put_rows(rows: &[Row], out: &mut [u8], at: usize)
-    requires { at + 15 * length rows.now ≤ length out.old }
-    ensures after { out.new ≡ take at out.old ++ (flat_map row_text rows.now ++ drop (at + 15 * length rows.now) out.old) }
+// Writes the lines of the rows at the beginning of these places.
+fn put_rows(rows: &[Row], out: &mut [u8])
+    requires { 15 * length rows.now ≤ length out.old }
+    ensures after { out.new ≡ flat_map row_text rows.now ++ drop (15 * length rows.now) out.old }
 {
+    // By index: of what is written through `chunks_exact_mut(ROW_BYTES).zip(rows)` a proof knows nothing.
     for (i, row) in rows.iter().enumerate() {
-        put_row(row, out, at + ROW_BYTES * i);
+        put_row(row, &mut out[ROW_BYTES * i..]);
     }
 }
 
@@ -49,12 +53,15 @@ pub fn write_appendix(plan: &Plan, out: &mut [u8]) -> Result<usize, AppendixFaul
     ensures telling { TextsTellQuotes }
 {
     let rows = plan.rows();
-    let length = FRAME_BYTES + ROW_BYTES * rows.len();
+    let length = OPENING_BYTES + ROW_BYTES * rows.len() + CLOSE_BYTES;
     if out.len() < length {
         return Err(AppendixFault::Places);
     }
-    put_line(&[4, plan.controllers(), rows.len() as u8], out, 0);
-    put_rows(rows, out, 7);
-    put_line(&[6], out, length - 3);
+    put_line(
+        &[Kind::Opening as u8, plan.controllers(), rows.len() as u8],
+        out,
+    );
+    put_rows(rows, &mut out[OPENING_BYTES..]);
+    put_line(&[Kind::Close as u8], &mut out[length - CLOSE_BYTES..]);
     Ok(length)
 }

@@ -2,6 +2,7 @@
 #![tactic(auto)]
 
 mod appendix;
+mod kind;
 mod line;
 mod refusal;
 

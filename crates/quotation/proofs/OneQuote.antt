@@ -18,7 +18,7 @@ use Rattle.planner.specs.Planning.{Placed}
 use Rattle.planner.specs.Searching.{EachInRange}
 use Rattle.planner.specs.declared.row.Row.{Row}
 use Rattle.planner.proofs.Outcomes.{exactly}
-use Rattle.planner.proofs.Places.{nth_inside, nth_is}
+use Rattle.std.proofs.lemmas.Option.{get_or_from_slice_get, slice_get_within}
 use Rattle.planner.proofs.Unique.{one_way}
 use Rattle.printout.specs.Texts.{Wrote, appendix_text}
 use Rattle.quotation.specs.Quotations.{Asks, Planned, Unplanned, Written, Quoted, Only}
@@ -55,7 +55,7 @@ written_one sheet before a b x y (m, rows, plan, wrote) (n, others, plan', wrote
 -- tasks of a valid sheet are in range
 each_in_range : (tasks : List Task) → AllByRecursion InRange tasks → EachInRange tasks
 each_in_range tasks all i task at =
-    subst InRange (nth_is tasks i task task at) (All-get_or InRange tasks i task (nth_inside tasks i task at) all)
+    subst InRange (get_or_from_slice_get tasks i task task at) (All-get_or InRange tasks i task (slice_get_within tasks i task at) all)
 
 -- a plan and a refusal of planning do not both come
 planned_or_not : (sheet : List ℕ) (m : ℕ) (rows : List Row) (fault : PlanFault) → Planned sheet m rows → Unplanned sheet fault → ⊥

@@ -1,6 +1,6 @@
 -- What comes of a task sheet: the appendix of its plan, or one refusal.
 use Rattle.std.specs.Prelude.{◌≡◌, ℕ, pred, List, ℤ, pos, negsuc, Ok, Err, Result}
-use Rattle.tasks.specs.Refusals.{appendix_refusal}
+use Rattle.tasks.specs.Refusals.{appendix_refusal, reason_number}
 use Rattle.tasks.specs.declared.fault.AppendixFault.{AppendixFault}
 use Rattle.tasks.specs.declared.fault.AppendixFault.TheVariants.{Sheet, Plan, Places}
 use Rattle.tasks.specs.declared.fault.PlanFault.{PlanFault}
@@ -54,4 +54,4 @@ Only sheet before answer next =
 -- an answer as one number: the length written, or the number of the refusal below 0
 abbrev pub code_of : Result ℕ AppendixFault → ℤ
 code_of (Ok n) = pos n
-code_of (Err fault) = negsuc (pred (appendix_refusal fault).number)
+code_of (Err fault) = negsuc (pred (reason_number (appendix_refusal fault).reason))

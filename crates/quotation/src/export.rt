@@ -4,6 +4,7 @@ ghost use Rattle.tasks.specs.declared.fault.AppendixFault.{AppendixFault as Faul
 ghost use Rattle.quotation.specs.Quotations.{Only, Quoted, code_of};
 
 use crate::appendix_of;
+use tasks::Refusal;
 
 // The length written, or the number of the refusal as a negative number.
 pub fn jostagalley_appendix(sheet: &[u8], appendix: &mut [u8]) -> i64
@@ -11,6 +12,6 @@ pub fn jostagalley_appendix(sheet: &[u8], appendix: &mut [u8]) -> i64
 {
     match appendix_of(sheet, appendix) {
         Ok(length) => length as i64,
-        Err(fault) => -(fault.refusal().number as i64),
+        Err(fault) => -i64::from(Refusal::from(fault).number()),
     }
 }

@@ -9,7 +9,7 @@ use policies::Front;
 use printout::write_appendix;
 use records::Records;
 use sheet::read_sheet;
-use tasks::{AppendixFault, BLANK_TASK};
+use tasks::{AppendixFault, Task};
 
 mod export;
 
@@ -28,7 +28,7 @@ fn read_plan_write(sheet: &[u8], out: &mut [u8]) -> Result<usize, AppendixFault>
     ensures quoted { Quoted sheet.now out.old result out.new }
     ensures small { IfOk result (λ n. n ≤ 970) }
 {
-    let mut places = [BLANK_TASK; 64];
+    let mut places = [Task::default(); 64];
     let mut tasks = Records::new(&mut places);
     let m = read_sheet(sheet, &mut tasks)?;
     let mut made = Plan::new();

@@ -2,9 +2,10 @@
 // `replay SHEET [--policy front|round|ends] [--bench slate|register]`.
 #![tactic(auto)]
 
+mod answer;
+mod journal;
 mod options;
 mod play;
-mod report;
 mod script;
 
 use options::Options;
@@ -13,33 +14,26 @@ use printout::refusal_line;
 use records::Records;
 use sheet::read_sheet;
 use std::fs;
-use std::io::Write;
-use tasks::BLANK_TASK;
+use tasks::Task;
 
-fn replay(rt: &HostRuntime) -> anyhow::Result<()> {
-    let options = Options::read(rt)?;
-    let bytes = fs::read(rt, options.sheet.as_str())?;
-    let calls = script::read(rt)?;
-    let mut places = [BLANK_TASK; 64];
+fn main(rt: HostRuntime) -> anyhow::Result<()> {
+    let options = Options::read(&rt)?;
+    let sheet = fs::read(&rt, options.sheet.as_str())?;
+    let calls = script::read(&rt)?;
+    let mut places = [Task::default(); 64];
     let mut tasks = Records::new(&mut places);
-    match read_sheet(&bytes, &mut tasks) {
-        Ok(controllers) => play::by_policy(
-            rt,
-            Job {
+    match read_sheet(&sheet, &mut tasks) {
+        Ok(controllers) => {
+            let job = Job {
                 controllers,
                 tasks: tasks.as_slice(),
                 calls: &calls,
+                policy: options.policy,
                 bench: options.bench,
-            },
-            options.policy,
-        ),
-        Err(fault) => {
-            rt.stdout().write_all(&refusal_line(&fault.refusal()))?;
-            Ok(())
+            };
+            job.play(&rt)?;
         }
+        Err(fault) => rt.write_all(&refusal_line(&fault.into()))?,
     }
-}
-
-fn main(rt: HostRuntime) -> anyhow::Result<()> {
-    replay(&rt)
+    Ok(())
 }

@@ -1,13 +1,37 @@
 // The calls of a script, one a line.
 use anyhow::anyhow;
 use machine::Call;
-use std::alloc::{AllocError, Global};
+use std::fmt;
+use std::str::FromStr;
 
 // More places than any tick needs.
 const PLACES: u8 = 17;
 
+// A call as a line of a script spells it.
+#[derive(Clone, Copy)]
+pub(crate) struct Line(pub(crate) Call);
+
+// The line spells no call.
+#[derive(Clone, Copy)]
+pub(crate) struct NoCall;
+
+impl FromStr for Line {
+    type Err = NoCall;
+
+    fn from_str(line: &str) -> Result<Line, NoCall> {
+        match line {
+            "tick" => Ok(Line(Call::Tick { places: PLACES })),
+            "return" => Ok(Line(Call::Return)),
+            "mode" => Ok(Line(Call::Status)),
+            _ => numbered(line).map(Line).ok_or(NoCall),
+        }
+    }
+}
+
 // A call with a number: a controller's or a row's.
-fn numbered(word: &str, number: u8) -> Option<Call> {
+fn numbered(line: &str) -> Option<Call> {
+    let (word, digits) = line.split_once(' ')?;
+    let number = digits.parse().ok()?;
     match word {
         "report" => Some(Call::Report { controller: number }),
         "strike" => Some(Call::Strike { controller: number }),
@@ -17,51 +41,32 @@ fn numbered(word: &str, number: u8) -> Option<Call> {
     }
 }
 
-fn call(line: &str) -> Option<Call> {
-    match line {
-        "tick" => return Some(Call::Tick { places: PLACES }),
-        "return" => return Some(Call::Return),
-        "mode" => return Some(Call::Status),
-        _ => {}
-    }
-    let (word, digits) = line.split_once(' ')?;
-    match digits.parse::<u8>() {
-        Ok(number) => numbered(word, number),
-        Err(_) => None,
+impl fmt::Display for Line {
+    fn fmt<W: fmt::Write>(&self, f: &mut fmt::Formatter<W>) -> fmt::Result {
+        match self.0 {
+            Call::Tick { places: _ } => write!(f, "tick"),
+            Call::Report { controller } => write!(f, "report {controller}"),
+            Call::Strike { controller } => write!(f, "strike {controller}"),
+            Call::Return => write!(f, "return"),
+            Call::Controller { controller } => write!(f, "controller {controller}"),
+            Call::Row { row } => write!(f, "row {row}"),
+            Call::Status => write!(f, "mode"),
+        }
     }
 }
 
-// The calls of standard input. A line that is no call is an error that names it.
+// The call that a numbered line spells. A line that is no call is an error that names it.
+fn call(number: usize, line: &str) -> anyhow::Result<Call> {
+    match line.parse() {
+        Ok(Line(call)) => Ok(call),
+        Err(NoCall) => Err(anyhow!("line {number} is no call: {line}")),
+    }
+}
+
+// The calls of standard input.
 pub(crate) fn read(rt: &HostRuntime) -> anyhow::Result<Vec<Call>> {
-    let heap = rt.alloc();
-    let mut calls = Vec::new(heap);
-    for line in rt.lines(heap) {
-        let text = line?;
-        let Some(call) = call(text.as_str()) else {
-            let number = calls.len() + 1;
-            return Err(anyhow!("line {number} is no call: {text}"));
-        };
-        calls.push(call)?;
-    }
-    Ok(calls)
-}
-
-// The calls, then a question for the counts of each row, and one for each controller.
-pub(crate) fn with_questions(
-    heap: Global,
-    calls: &[Call],
-    rows: u8,
-    controllers: u8,
-) -> Result<Vec<Call>, AllocError> {
-    let mut all = Vec::new(heap);
-    for call in calls {
-        all.push(*call)?;
-    }
-    for row in 0..rows {
-        all.push(Call::Row { row })?;
-    }
-    for controller in 0..controllers {
-        all.push(Call::Controller { controller })?;
-    }
-    Ok(all)
+    (1..)
+        .zip(rt.lines(rt.alloc()))
+        .map(|(number, line)| call(number, line?.as_str()))
+        .try_collect(rt.alloc())
 }

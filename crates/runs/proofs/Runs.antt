@@ -1,7 +1,6 @@
 -- A load, and calls sent one after the other.
-use Rattle.std.proofs.Common.{◌≡◌, ℕ, ◌+◌, ◌<◌, ◌≤◌, min, List, [], ◌∷◌, ◌++◌, length, get_or, take, drop, set, IsErrAnd, Ok, Err, Result, sym, refl, ap, ◌∙◌, subst, ap₂, subst₂, ⊎_elim, arith, take_all}
+use Rattle.std.proofs.Common.{◌≡◌, ℕ, ◌+◌, ◌<◌, ◌≤◌, min, List, [], ◌∷◌, ◌++◌, length, get_or, take, drop, set, Ok, Result, sym, ap, ◌∙◌, ap₂, subst₂, ⊎_elim, arith, take_all}
 use Rattle.std.proofs.lemmas.List.{drop_all, drop-drop, drop-set-lt, length-take, take_more_set}
-use Rattle.std.proofs.lemmas.Result.{err_from_is_err_and}
 use Rattle.std.proofs.lemmas.Bool.{cases_lt}
 use Rattle.tasks.specs.declared.fault.ControlFault.{ControlFault}
 use Rattle.planner.proofs.Standing.{stands}
@@ -16,14 +15,14 @@ use Rattle.machine.proofs.Sending.{end_more, run_more}
 use Rattle.machine.proofs.Unique.{laws_leave_nothing_open}
 use Rattle.machine.specs.Entries.{entry}
 use Rattle.machine.specs.Laws.{Laws}
-use Rattle.machine.specs.Machine.{State, after, answer, at_end, by_result, fresh, load_answer, loaded, run as run_of}
-use Rattle.machine.specs.declared.entry.Answer.{Answer}
+use Rattle.machine.specs.Machine.{State, after, answer, at_end, by_result, load_answer, loaded, run as run_of}
+use Rattle.machine.specs.Entries.{Answer}
 use Rattle.machine.specs.declared.entry.Call.{Call}
 use Rattle.machine.specs.declared.entry.Entry.{Entry}
 use Rattle.control.specs.Calls.{Loads, Steps}
 use Rattle.control.specs.States.{state_of}
 use Rattle.control.specs.declared.control.Control.{Control}
-use Rattle.runs.specs.Runs.{Ran, RunAfter, after_load, sent}
+use Rattle.runs.specs.Runs.{Ran, after_load, sent}
 
 -- ---- as many as there are
 
@@ -43,26 +42,7 @@ drop_short n xs =
 
 -- ---- the load
 
--- a refused load leaves all as it was
-pub refused
-    : {B F : Type 0} (means : B → States) (keeps : B → F) (plan : Plan) (calls : List Call) (a b : Control B) (journal : List Entry)
-    (fault : ControlFault) (r : Result ℕ ControlFault) → IsErrAnd r (λ y. y ≡ fault)
-    → Err fault ≡ load_answer (state_of means a) plan.controllers → Loads means a b plan
-    → (r ≡ after_load (load_answer (state_of means a) plan.controllers) (length (sent calls journal)))
-    × RunAfter means keeps plan calls a b journal journal r
-refused means keeps plan calls a b journal fault r e f l =
-    let (y, is, same) = err_from_is_err_and r e in
-    let result : r ≡ Err fault = is ∙ ap Err same in (
-      result ∙ ap (λ (o : Result (Unit {0}) ControlFault). after_load o (length (sent calls journal))) f,
-      subst (RunAfter means keeps plan calls a b journal journal) (sym result) (record {
-        state = l.state ∙ ap (λ (o : Result (Unit {0}) ControlFault). by_result o (fresh plan.controllers (rows_of plan) (means a.bench)) (state_of means a)) (sym f);
-        kept = l.kept ∙ ap (λ (o : Result (Unit {0}) ControlFault). by_result o plan a.plan) (sym f);
-        bench = l.bench;
-        unwritten = refl;
-      }),
-    )
-
--- an accepted one begins the run
+-- an accepted load begins the run
 pub begun
     : {B : Type 0} (means : B → States) (plan : Plan) (a b : Control B) (x : Unit {0})
     → Ok x ≡ load_answer (state_of means a) plan.controllers → Loads means a b plan

@@ -10,8 +10,8 @@ use Rattle.tasks.specs.declared.fault.ControlFault.TheVariants.{Over, Places}
 use Rattle.machine.specs.Below.{first_below}
 use Rattle.machine.specs.Entries.{written}
 use Rattle.machine.specs.Machine.{State, after, answer, answered, blocked, end_of_time, settle, tick_answer, tick_events, unless_blocked, when_loaded}
-use Rattle.machine.specs.declared.entry.Answer.{Answer}
-use Rattle.machine.specs.declared.entry.Answer.TheVariants.{Ticked, Done, Shown, Counted, Stood, Refused}
+use Rattle.machine.specs.Entries.{Answer}
+use Rattle.machine.specs.declared.entry.Reply.TheVariants.{Ticked, Done, Shown, Counted, Stood}
 use Rattle.machine.specs.declared.entry.Call.TheVariants.{Tick}
 use Rattle.machine.specs.declared.event.Event.{Event}
 use Rattle.machine.specs.declared.event.Event.TheVariants.{Switch}
@@ -48,12 +48,12 @@ same_answer s few p q e =
 
 -- what a tick leaves does not depend on the number of places but by its answer
 same_settled : (s : State) (p q : ℕ) (a : Answer) → settle s (Tick q) a ≡ settle s (Tick p) a
-same_settled s p q (Ticked w) = refl
-same_settled s p q Done = refl
-same_settled s p q (Shown x) = refl
-same_settled s p q (Counted x) = refl
-same_settled s p q (Stood x) = refl
-same_settled s p q (Refused x) = refl
+same_settled s p q (Ok (Ticked w)) = refl
+same_settled s p q (Ok Done) = refl
+same_settled s p q (Ok (Shown x)) = refl
+same_settled s p q (Ok (Counted x)) = refl
+same_settled s p q (Ok (Stood x)) = refl
+same_settled s p q (Err x) = refl
 
 -- the answer with n events, read off its number
 taken_by : (r : Result (List Event) ControlFault) (n : ℕ) → Ok n ≡ counted r → (es : List Event) × (r ≡ Ok es) × (length es ≡ n)
@@ -88,7 +88,7 @@ module _ (s : State) (few : length s.shows ≤ 8) (p part : ℕ) (is : part ≡ 
   -- an accepted tick: the places that were lent, and the others, are the events as an answer holds them
   pub ticked
       : (n : ℕ) → Ok n ≡ counted answer_here → (xs : List Event) → xs ≡ places_after answer_here places → length xs ≡ length places
-      → Ticked (record { count = n; events = xs ++ drop part seventeen }) ≡ answer s (Tick p)
+      → Ok (Ticked (record { count = n; events = xs ++ drop part seventeen })) ≡ answer s (Tick p)
   ticked n e xs w l =
       let (es, k, long) = taken_by answer_here n e in
       let z : length xs ≡ length es + length (drop (length es) places) =
@@ -98,11 +98,11 @@ module _ (s : State) (few : length s.shows ≤ 8) (p part : ℕ) (is : part ≡ 
       ap (λ (ys : List Event). ys ++ drop part seventeen) (w ∙ ap (λ (r : Result (List Event) ControlFault). places_after r places) k)
       ∙ append_assoc es (drop (length es) places) (drop part seventeen)
       ∙ ap (λ (ys : List Event). es ++ ys) (sym (drop-append-le (length es) places (drop part seventeen) inside) ∙ ap (drop (length es)) (take-append-drop part seventeen) ∙ drop-replicate (length es) 17 Switch) in
-      ap₂ (λ (m : ℕ) (ys : List Event). Ticked (record { count = m; events = ys })) (sym long) whole
+      ap₂ (λ (m : ℕ) (ys : List Event). Ok (Ticked (record { count = m; events = ys }))) (sym long) whole
       ∙ ap (answered (λ ys. Ticked (written ys))) (sym k ∙ same)
 
   -- a refused one
-  pub unticked : (fault : ControlFault) → Err fault ≡ counted answer_here → Refused (control_refusal fault) ≡ answer s (Tick p)
+  pub unticked : (fault : ControlFault) → Err fault ≡ counted answer_here → Err (control_refusal fault) ≡ answer s (Tick p)
   unticked fault e = ap (answered (λ ys. Ticked (written ys))) (sym (refused_by answer_here fault e) ∙ same)
 
   -- what it leaves

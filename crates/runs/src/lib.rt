@@ -2,7 +2,6 @@
 // tasks over their plan to such a run.
 #![tactic(auto)]
 
-mod answers;
 mod running;
 mod sending;
 mod whole;

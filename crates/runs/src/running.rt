@@ -24,6 +24,7 @@ pub fn run<B: Bench>(
 {
     control.load(plan)?;
     let count = calls.len().min(journal.len());
+    // By index: of what is written through `journal.iter_mut().zip(calls)` a proof knows nothing.
     for i in 0..count {
         let call = calls[i];
         journal[i] = Entry {

@@ -6,10 +6,9 @@ ghost use Rattle.control.specs.Calls.{Steps, counted};
 ghost use Rattle.control.specs.States.{state_of};
 ghost use Rattle.runs.specs.Runs.{places_after};
 
-use crate::answers::{done, shown, stood, told};
 use benches::Bench;
 use control::Control;
-use machine::{Answer, Call, Event, Written};
+use machine::{Answer, Call, Event, Reply, Written};
 use records::Records;
 use tasks::ControlFault;
 
@@ -32,14 +31,12 @@ fn tick<B: Bench>(control: &mut Control<B>, places: u8) -> Answer
     ensures steps { Steps B.Bench.meaning B.Bench.fixed control.old control.new (Tick places) }
 {
     let mut events = [Event::Switch; 17];
-    let lent = (places as usize).min(17);
-    match tick_into(control, &mut events[..lent]) {
-        Ok(count) => Answer::Ticked(Written {
-            count: count as u8,
-            events,
-        }),
-        Err(fault) => Answer::Refused(fault.refusal()),
-    }
+    let lent = usize::from(places).min(17);
+    let count = tick_into(control, &mut events[..lent])?;
+    Ok(Reply::Ticked(Written {
+        count: count as u8,
+        events,
+    }))
 }
 
 // What the control answers to the call.
@@ -49,11 +46,20 @@ pub fn send<B: Bench>(control: &mut Control<B>, call: Call) -> Answer
 {
     match call {
         Call::Tick { places } => tick(control, places),
-        Call::Report { controller } => done(control.report(controller)),
-        Call::Strike { controller } => done(control.strike(controller)),
-        Call::Return => done(control.return_to_everyday()),
-        Call::Controller { controller } => shown(control.controller(controller)),
-        Call::Row { row } => told(control.row(row)),
-        Call::Status => stood(control.standing()),
+        Call::Report { controller } => {
+            control.report(controller)?;
+            Ok(Reply::Done)
+        }
+        Call::Strike { controller } => {
+            control.strike(controller)?;
+            Ok(Reply::Done)
+        }
+        Call::Return => {
+            control.return_to_everyday()?;
+            Ok(Reply::Done)
+        }
+        Call::Controller { controller } => Ok(Reply::Shown(control.controller(controller)?)),
+        Call::Row { row } => Ok(Reply::Counted(control.row(row)?)),
+        Call::Status => Ok(Reply::Stood(control.standing()?)),
     }
 }

@@ -1,11 +1,12 @@
 -- The first line of some bytes, by the count of the bytes before its end.
-use Rattle.std.proofs.Common.{◌≡◌, ℕ, suc, ◌+◌, ◌-◌, ◌<◌, ◌≤◌, Bool, true, false, cond, List, [], ◌∷◌, length, take, drop, sym, refl, ap, ◌∙◌, add-one, one-add, arith}
+use Rattle.std.proofs.Common.{◌≡◌, ℕ, suc, ◌+◌, ◌-◌, ◌<◌, ◌≤◌, Bool, true, false, cond, List, [], ◌∷◌, length, take, drop, sym, refl, ap, ◌∙◌, add-one, one-add, arith, Some, None, eqb}
 use native.Mathlib.Nat.{sub-zero}
-use Rattle.std.specs.List.{prefix_len}
-use Rattle.std.proofs.lemmas.List.{take_rest, drop-drop, nil_from_length, length-take-le}
+use Rattle.std.specs.List.{prefix_len, position}
+use Rattle.std.proofs.lemmas.Bool.Decides.{nat_tests}
+use Rattle.std.proofs.lemmas.List.{take_rest, drop-drop, length-take-le}
 use Rattle.std.proofs.lemmas.List.Sums.{prefix_len-le-length}
 use Rattle.sheet.specs.Walk.{place_after}
-use Rattle.sheet.specs.Lines.{no_more, not_ended, ended, in_line, longer, lines}
+use Rattle.sheet.specs.Lines.{not_ended, ended, in_line, longer, lines}
 
 abbrev Cut : List ℕ → Type 0
 Cut bs = prefix_len in_line bs < length bs → lines bs ≡ ended (take (prefix_len in_line bs) bs) (lines (drop (prefix_len in_line bs + 1) bs))
@@ -34,6 +35,14 @@ pub uncut : (bs : List ℕ) → Uncut bs
 uncut [] e l = absurd (omega arith)
 uncut (b ∷ bs) e l = uncut_more b bs (in_line b) (uncut bs) e
 
+-- the first end of a line, where there is one
+pub found : (bs : List ℕ) (k : ℕ) → Some k ≡ position (λ b. eqb b 10) bs → (k ≡ prefix_len in_line bs) × (k < length bs)
+found bs k e = grind (arith, nat_tests)
+
+-- no end of a line: every byte belongs to it
+pub not_found : (bs : List ℕ) → None ≡ position (λ b. eqb b 10) bs → prefix_len in_line bs ≡ length bs
+not_found bs e = let most = prefix_len-le-length in_line bs in grind (arith, nat_tests)
+
 module _ (bytes : List ℕ) (place k : ℕ) (count : k ≡ prefix_len in_line (take (length bytes - place) (drop place bytes))) where
   counted : k ≡ prefix_len in_line (drop place bytes)
   counted = count ∙ ap (prefix_len in_line) (take_rest bytes place)
@@ -46,9 +55,6 @@ module _ (bytes : List ℕ) (place k : ℕ) (count : k ≡ prefix_len in_line (t
 
   pub moved_on : k < length (take (length bytes - place) (drop place bytes)) → place + (k + 1) ≡ place_after place (lines (drop place bytes))
   moved_on l = sym (ap (place_after place) (first_line l) ∙ ap (λ j. place + (j + 1)) (rw sub-zero (length-take-le k (take (length bytes - place) (drop place bytes)) (omega arith))))
-
-  pub no_line : length (take (length bytes - place) (drop place bytes)) ≤ k → k ≡ 0 → lines (drop place bytes) ≡ no_more
-  no_line l e = ap lines (nil_from_length (drop place bytes) (omega (arith, ap length (take_rest bytes place))))
 
   pub last_line : length (take (length bytes - place) (drop place bytes)) ≤ k → (k ≡ 0 → ⊥) → lines (drop place bytes) ≡ not_ended
   last_line l e =

@@ -1,5 +1,6 @@
 -- Reading a sheet: the opening, the rows, the close, and nothing more. The first rule that a line breaks decides.
-use Rattle.std.specs.Prelude.{ℕ, zero, suc, ◌+◌, ◌≤◌, Bool, false, cond, ◌&&◌, ◌||◌, List, [], ◌∷◌, ◌++◌, length, drop, Some, None, Ok, Err, Option, Result, ◌==◌, nat_le, nat_lt}
+use Rattle.std.specs.Prelude.{ℕ, zero, suc, ◌+◌, ◌≤◌, Bool, cond, ◌&&◌, List, [], ◌∷◌, ◌++◌, length, drop, Some, None, Ok, Err, Option, Result, ◌==◌, nat_le, nat_lt}
+use Rattle.std.specs.List.{list_any}
 use Rattle.tasks.specs.declared.task.Task.{Task}
 use Rattle.tasks.specs.declared.fault.FrameFault.{FrameFault}
 use Rattle.tasks.specs.declared.fault.SheetFault.{SheetFault}
@@ -15,8 +16,7 @@ counts_in_range m tasks = (nat_le 1 m && nat_le m 8) && nat_le tasks 64
 
 -- whether some row has an id
 abbrev pub used : ℕ → List Task → Bool
-used id [] = false
-used id (t ∷ rows) = t.id == id || used id rows
+used id = list_any (λ t. t.id == id)
 
 -- the period of the last row, and 0 before the first
 abbrev pub last_period : List Task → ℕ

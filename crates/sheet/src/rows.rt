@@ -8,12 +8,7 @@ use tasks::{SheetFault, Task};
 fn id_used(rows: &[Task], id: u8) -> bool
     ensures value { result ≡ used id rows.now }
 {
-    for row in rows {
-        if row.id == id {
-            return true;
-        }
-    }
-    false
+    rows.iter().any(|row| row.id == id)
 }
 
 // The period of the last row, and 0 before the first.

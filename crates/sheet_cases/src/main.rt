@@ -1,64 +1,58 @@
 // Reads the table of sheets in `stdin` and prints what comes of each; `stdout` holds what should.
 // A row is PLACES NAME: SHEET, where / stands for the end of a line and ~ for a carriage return.
+// appendix_cases reads its rows alike: a crate for what both do would need the heap, and no library crate here uses it.
 #![tactic(auto)]
 
-use anyhow::anyhow;
+use anyhow::Context;
 use records::Records;
 use sheet::read_sheet;
-use std::alloc::{AllocError, Global};
-use std::io;
-use tasks::{BLANK_TASK, Refusal};
+use std::{fmt, io};
+use tasks::{Refusal, Task};
 
-// The bytes of a sheet as the table writes it.
-fn sheet_bytes(heap: Global, text: &str) -> Result<Vec<u8>, AllocError> {
-    let mut bytes = Vec::new(heap);
-    for b in text.bytes() {
-        bytes.push(match b {
-            b'/' => b'\n',
-            b'~' => b'\r',
-            other => other,
-        })?;
-    }
-    Ok(bytes)
-}
+// As many places as a sheet has tasks at most.
+const MOST_TASKS: usize = 64;
 
-fn print_refusal(rt: &HostRuntime, refusal: &Refusal) -> io::Result<()> {
-    let number = refusal.number;
-    let layer = refusal.layer;
-    let line = refusal.place;
-    print!(rt; "refused {number}, layer {layer}, line {line}")?;
-    if let Some(column) = refusal.column {
-        print!(rt; ", column {column}")?;
+// A refusal as the table shows it.
+#[derive(Clone, Copy)]
+struct RefusalText(Refusal);
+
+impl fmt::Display for RefusalText {
+    fn fmt<W: fmt::Write>(&self, f: &mut fmt::Formatter<W>) -> fmt::Result {
+        let RefusalText(refusal) = self;
+        let number = refusal.number();
+        let layer = refusal.layer_number();
+        let line = refusal.place;
+        write!(f, "refused {number}, layer {layer}, line {line}")?;
+        match refusal.column {
+            Some(column) => write!(f, ", column {column}"),
+            None => Ok(()),
+        }
     }
-    Ok(())
 }
 
 // What comes of a sheet read into so many places, and the ids of the rows that the list then holds.
-fn print_outcome(rt: &HostRuntime, sheet: &[u8], places: usize) -> io::Result<()> {
-    let mut table = [BLANK_TASK; 64];
-    let mut rows = Records::new(&mut table[0..places.min(64)]);
+fn print_outcome(rt: &impl Print, sheet: &[u8], places: usize) -> io::Result<()> {
+    let mut table = [Task::default(); MOST_TASKS];
+    let mut rows = Records::new(&mut table[..places.min(MOST_TASKS)]);
     match read_sheet(sheet, &mut rows) {
         Ok(m) => print!(rt; "taken, m {m}")?,
-        Err(fault) => print_refusal(rt, &fault.refusal())?,
+        Err(fault) => print!(rt; "{}", RefusalText(fault.into()))?,
     }
     print!(rt; "; rows")?;
     for row in rows.as_slice() {
-        let id = row.id;
-        print!(rt; " {id:02X}")?;
+        print!(rt; " {:02X}", row.id)?;
     }
     println!(rt)
 }
 
 fn show(rt: &HostRuntime, row: &str) -> anyhow::Result<()> {
-    let Some((places, rest)) = row.split_once(' ') else {
-        return Err(anyhow!("a row without places"));
-    };
-    let Some((_name, text)) = rest.split_once(": ") else {
-        return Err(anyhow!("a row without a sheet"));
-    };
-    let sheet = sheet_bytes(rt.alloc(), text)?;
+    let (places, rest) = row.split_once(' ').context("a row without places")?;
+    let (_name, text) = rest.split_once(": ").context("a row without a sheet")?;
+    let sheet = text
+        .replace(rt.alloc(), '/', "\n")?
+        .replace(rt.alloc(), '~', "\r")?;
     print!(rt; "{row} -> ")?;
-    print_outcome(rt, &sheet, places.parse::<usize>()?)?;
+    print_outcome(rt, sheet.as_bytes(), places.parse()?)?;
     Ok(())
 }
 

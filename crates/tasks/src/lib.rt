@@ -3,6 +3,7 @@
 
 mod fault;
 mod mode;
+mod reason;
 mod refusal;
 mod task;
 
@@ -11,5 +12,6 @@ pub use fault::{
     RunFault, SheetFault,
 };
 pub use mode::{Mode, PerMode};
+pub use reason::{Layer, Reason};
 pub use refusal::Refusal;
-pub use task::{BLANK_TASK, Task};
+pub use task::Task;

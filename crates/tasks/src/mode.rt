@@ -9,7 +9,7 @@ pub enum Mode {
 }
 
 // A number for each mode.
-#[derive(Clone, Copy, Default, PartialEq, Eq)]
+#[derive(Clone, Copy, Default)]
 pub struct PerMode {
     pub everyday: u16,
     pub critical: u16,

@@ -5,8 +5,8 @@ ghost use Rattle.tasks.specs.Tasks.{InRange, belongs, budget, critical_in_range,
 use crate::mode::{Mode, PerMode};
 
 // A task as it was handed in: a plain record that may hold any numbers.
-// The level is 0 for an everyday task and 1 for a critical one; times count in ticks.
-#[derive(Clone, Copy, Default, PartialEq, Eq)]
+// The level is 0 for an everyday task and 1 for a critical one, and a number, since a record may hold any; times count in ticks.
+#[derive(Clone, Copy, Default)]
 pub struct Task {
     pub id: u8,
     pub level: u8,
@@ -14,18 +14,6 @@ pub struct Task {
     pub deadline: u16,
     pub budgets: PerMode,
 }
-
-// What stands in a place before a task is written there.
-pub const BLANK_TASK: Task = Task {
-    id: 0,
-    level: 0,
-    period: 0,
-    deadline: 0,
-    budgets: PerMode {
-        everyday: 0,
-        critical: 0,
-    },
-};
 
 impl Task {
     // Whether the task runs in this mode.
@@ -47,10 +35,7 @@ impl Task {
         ensures value { result ≡ in_range self.now }
         ensures exactly { (result ≡ true) ↔ InRange self.now }
     {
-        if self.level > 1 || !self.times_in_range() {
-            return false;
-        }
-        self.critical_in_range()
+        self.level <= 1 && self.times_in_range() && self.critical_in_range()
     }
 
     // The period, the deadline and the everyday budget.

@@ -1,19 +1,9 @@
-use Rattle.std.proofs.Common.{◌≡◌, length, Err, sym, refl, ap, ◌∙◌}
-use Rattle.records.specs.Lists.{kept, lent}
-use Rattle.sheet.specs.Reading.{read_sheet}
-use Rattle.tasks.specs.declared.fault.AppendixFault.TheVariants.{Sheet, Plan}
+use Rattle.std.proofs.Common.{Err, refl}
+use Rattle.records.specs.Lists.{kept}
+use Rattle.tasks.specs.declared.fault.AppendixFault.TheVariants.{Plan}
 use Rattle.planner.specs.Plans.{rows_of}
 use Rattle.quotation.proofs.Stages.{carried, unplanned, written}
 use Rattle.quotation.proofs.read_plan_write.Goals as goal
-
-pub returns-in_err-m : goal.returns-in_err-m
-returns-in_err-m c =
-    let sheet = c.args.sheet.now in
-    let f = c.in_err-m.field-0.0 in
-    let long : length (lent c.new-tasks.result) ≡ 64 = ap (λ p. length p.now) c.new-tasks.ensures.same in
-    let read = sym (c.in_err-m.ensures.delivered.answered ∙ ap (λ n. (read_sheet sheet n).answer) long) in
-    let d = carried sheet c.args.out.now c.from_residual.result (Sheet f) c.from_residual.ensures.1 (read, refl) in
-    record { quoted = d.0; small = d.1 }
 
 pub returns-in_err-plan : goal.returns-in_err-plan
 returns-in_err-plan c =

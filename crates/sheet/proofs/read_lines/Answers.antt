@@ -1,9 +1,9 @@
 -- Each way out of the reading delivers what the definition says.
-use Rattle.std.proofs.Common.{length, take, Ok, Err, sym, refl, ap, ◌∙◌, arith}
+use Rattle.std.proofs.Common.{length, take, Ok, Err, sym, refl, ap, ◌∙◌}
 use Rattle.records.specs.Lists.{kept, lent}
 use Rattle.sheet.specs.Lines.{lines, after, counted}
 use Rattle.sheet.specs.Walk.{left}
-use Rattle.sheet.proofs.Steps.{opening_at, row_at, passed_on, answered, opening_refused, opened, row_refused, one_more, close_refused, end_refused, finished, same_room}
+use Rattle.sheet.proofs.Steps.{opening_at, row_at, passed_on, answered, opening_refused, opened, row_refused, one_more, close_refused, end_refused, finished}
 use Rattle.sheet.proofs.read_lines.Goals as goal
 
 pub returns-in_err-m : goal.returns-in_err-m
@@ -38,9 +38,6 @@ returns-in_err-task c =
     let d = answered c.args.bytes.now (lent c.clear.new.self) (lent c.args.rows.now) c.args.rows.now.len (Err f) c.from_residual-in_err-task.result (lent c.loop-i.rows) c.loop-i.rows.len
     (row_refused so c.args.rows.now.len f c.loop-i-test.true e) (passed_on c.from_residual-in_err-task.result f c.from_residual-in_err-task.ensures.1) c.clear.ensures.same in
     record { delivered = record { answered = d.answer; places = d.list; len = d.count; lender = c.loop-i.invariant.1 ∙ c.clear.ensures.lender } }
-
-pub returns-in_err-push : goal.returns-in_err-push
-returns-in_err-push c = absurd (omega (arith, c.in_err-push.ensures.added.0, c.loop-i.invariant.0.count, c.loop-i.invariant.0.room, same_room c.loop-i.invariant.0 (omega arith)))
 
 pub loop-i-preserved : goal.loop-i-preserved
 loop-i-preserved c =

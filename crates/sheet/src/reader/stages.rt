@@ -12,9 +12,11 @@ use tasks::{SheetFault, Task};
 fn counts_in_range(m: u8, tasks: u8) -> bool
     ensures value { result ≡ counts_in_range m tasks }
 {
-    1 <= m && m <= 8 && tasks <= 64
+    (1..=8).contains(&m) && tasks <= 64
 }
 
+// Each call says how the reader moved on (`moved`). That is a fact of the call and of no reader by itself, so no invariant
+// can take it.
 impl<'a> Reader<'a> {
     // The opening: the count of controllers, and the number of tasks.
     pub(crate) fn opening(&mut self, places: usize) -> Result<(u8, u8), SheetFault>
@@ -29,7 +31,7 @@ impl<'a> Reader<'a> {
         if !counts_in_range(m, tasks) {
             return Err(SheetFault::Counts { line });
         }
-        if places < tasks as usize {
+        if places < usize::from(tasks) {
             return Err(SheetFault::Places { line });
         }
         Ok((m, tasks))

@@ -1,22 +1,17 @@
-ghost use Rattle.std.specs.Prelude.{◌≡◌};
-ghost use Rattle.std.specs.List.{prefix_len};
-ghost use Rattle.sheet.specs.Lines.{in_line, lines, next_line, next_told};
+ghost use Rattle.std.specs.Prelude.{◌≡◌, ◌==◌};
+ghost use Rattle.std.specs.List.{position};
+ghost use Rattle.sheet.specs.Lines.{lines, next_line, next_told};
 ghost use Rattle.sheet.specs.Walk.{Moved, left, shown_line, shown_frame};
 
 use crate::reader::Reader;
-use frames::{Frame, Line, frame_of};
+use frames::{Frame, Line};
 use tasks::{DigitFault, FrameFault};
 
-// How many bytes stand before the first end of a line.
-fn line_length(bytes: &[u8]) -> usize
-    ensures value { result ≡ prefix_len in_line bytes.now }
+// Where the first end of a line stands.
+fn end_of_line(bytes: &[u8]) -> Option<usize>
+    ensures value { result ≡ position (λ b. b == 10) bytes.now }
 {
-    for (i, b) in bytes.iter().enumerate() {
-        if *b == b'\n' {
-            return i;
-        }
-    }
-    bytes.len()
+    bytes.iter().position(|b| *b == b'\n')
 }
 
 impl<'a> Reader<'a> {
@@ -40,21 +35,20 @@ impl<'a> Reader<'a> {
     {
         let bytes = self.bytes;
         let rest = &bytes[self.place..];
-        let length = line_length(rest);
-        if length < rest.len() {
-            self.place += length + 1;
-            self.line += 1;
-            return Ok(Some(Line {
-                number: self.line,
-                digits: &rest[0..length],
-            }));
+        match end_of_line(rest) {
+            Some(length) => {
+                self.place += length + 1;
+                self.line += 1;
+                Ok(Some(Line {
+                    number: self.line,
+                    digits: &rest[0..length],
+                }))
+            }
+            None if rest.is_empty() => Ok(None),
+            None => Err(DigitFault::Unended {
+                line: self.line + 1,
+            }),
         }
-        if length == 0 {
-            return Ok(None);
-        }
-        Err(DigitFault::Unended {
-            line: self.line + 1,
-        })
     }
 
     // The frame on the next line, if there is one.
@@ -63,7 +57,7 @@ impl<'a> Reader<'a> {
         ensures moved { Moved self.old self.new }
     {
         match self.next_line()? {
-            Some(line) => Ok(Some(frame_of(line)?)),
+            Some(line) => Ok(Some(line.frame()?)),
             None => Ok(None),
         }
     }

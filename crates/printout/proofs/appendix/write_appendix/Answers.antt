@@ -1,4 +1,5 @@
-use Rattle.std.proofs.Common.{ℕ, ◌+◌, ◌*◌, List, length, Ok, Err, ap, subst, arith}
+use borrow.Rule.Slice.PartMut.{put_mid, same_len_mid}
+use Rattle.std.proofs.Common.{ℕ, ◌+◌, ◌-◌, ◌*◌, List, length, Ok, Err, refl, ap, ◌∙◌, subst, arith}
 use Rattle.tasks.specs.declared.fault.AppendixFault.TheVariants.{Places}
 use Rattle.planner.specs.declared.row.Row.{Row}
 use Rattle.printout.specs.Texts.{Wrote, appendix_text}
@@ -22,10 +23,13 @@ returns c =
     let plan = c.args.plan.now in
     let before = c.args.out.now in
     let rows = c.rows-rows.result.now in
-    let n = 10 + 15 * length rows in
-    let out = c.put_line-2.new.out in
-    let all = whole c.controllers.result rows before c.put_line.new.out c.put_rows.new.out out c.if-out-length.false
-    c.put_line.ensures.after c.put_rows.ensures.after c.put_line-2.ensures.after in
+    let n = 7 + 15 * length rows + 3 in
+    let opened = c.put_line.new.out in
+    let rowed = put_mid 7 (length opened - 7) opened c.put_rows.new.out in
+    let out = put_mid (n - 3) (length rowed - (n - 3)) rowed c.put_line-2.new.out in
+    let all = whole c.controllers.result n rows before opened rowed out refl c.if-out-length.false c.put_line.ensures.after
+    c.put_rows.new.out c.put_rows.ensures.after refl c.put_line-2.new.out c.put_line-2.ensures.after refl c.put_line.auto.out
+    (same_len_mid 7 (length opened - 7) opened c.put_rows.new.out c.put_rows.auto.out ∙ c.put_line.auto.out) in
     let M : ℕ → Type 0 = λ m. Wrote (appendix_text m rows) before (Ok n) out in
     let F : List Row → Type 0 = λ rs. Wrote (appendix_text plan.controllers rs) before (Ok n) out in
     record { wrote = subst F c.rows-rows.ensures.value (subst M c.controllers.ensures.value all); bound = omega (arith, ap length c.rows-rows.ensures.value, c.rows-rows.ensures.stands.short); telling = texts_tell_quotes }

@@ -2,15 +2,8 @@ use Rattle.std.proofs.Common.{◌≡◌, Ok, sym, refl, ap, ◌∙◌, arith}
 use Rattle.planner.specs.Plans.{rows_of}
 use Rattle.machine.specs.Machine.{loaded}
 use Rattle.machine.specs.declared.entry.Call.TheVariants.{Tick}
-use Rattle.runs.proofs.Runs.{all_sent, begun, one_more, refused}
+use Rattle.runs.proofs.Runs.{all_sent, begun, one_more}
 use Rattle.runs.proofs.running.run.Goals as goal
-
-pub returns-in_err-load : goal.returns-in_err-load
-returns-in_err-load g c =
-    let told = c.in_err-load.ensures in
-    let (answer, ran) = refused g.B.Bench.meaning g.B.Bench.fixed c.args.plan.now c.args.calls.now c.args.control.now c.load.new.self c.args.journal.now
-    c.in_err-load.field-0.0 c.from_residual.result c.from_residual.ensures.1 told.answer told.loads in
-    record { answer = answer; ran = ran }
 
 pub loop-i-init : goal.loop-i-init
 loop-i-init g c =

@@ -18,7 +18,7 @@ note-requires g c =
     let did = c.loop-c.invariant.0 in
     let len = ap (λ (x : State). length x.shows) did.state ∙ shows_length deed rows s i in
     let same = ap (λ (x : State). get_or x.shows i None) did.state ∙ shows_above deed rows s i i (omega arith) in
-    let able = able_along deed s t i c.in-Some.row len same (c.requires.able i c.in-Some.row (omega arith) c.in-Some.is) in
+    let able = able_along deed s t i c.in-Some.row len same (c.requires.able i c.in-Some.row (omega arith) (ap (λ (k : ℕ). get_or rows k None) (sym c.from.ensures) ∙ c.in-Some.is)) in
     record {
       able = subst (Able t) (sym c.event.ensures.value) able;
       room = omega (arith, did.wrote.long, did.wrote.size, deed_length deed rows i, c.requires.room);
@@ -29,12 +29,13 @@ loop-c-preserved g c =
     let deed = c.args.deed in
     let rows = c.args.rows.now in
     let i = c.loop-c.c in
+    let at : get_or rows i None ≡ get_or rows c.from.result None = ap (λ (k : ℕ). get_or rows k None) (sym c.from.ensures) in
     let one : Did g.B.Bench.meaning g.B.Bench.fixed c.loop-c.self c.match-held.self c.loop-c.events c.match-held.events (event_if deed i (get_or rows i None)) =
     elim c.match-held.branch [
       | in-Some w ↦ did_to g.B.Bench.meaning g.B.Bench.fixed _ _ _ _ _ _ _ (event_if deed i (get_or rows i None)) w.self-is w.events-is
-          (ap (event_if deed i) w.in-Some.is ∙ ap (λ (e : Event). e ∷ []) (sym w.event.ensures.value)) w.note.ensures.did
+          (ap (event_if deed i) (at ∙ w.in-Some.is) ∙ ap (λ (e : Event). e ∷ []) (sym w.event.ensures.value)) w.note.ensures.did
       | in_default w ↦ did_to g.B.Bench.meaning g.B.Bench.fixed _ _ _ _ _ _ _ (event_if deed i (get_or rows i None)) w.self-is w.events-is
-          (ap (event_if deed i) w.in_default.is) (did_none g.B.Bench.meaning g.B.Bench.fixed c.loop-c.self c.loop-c.events)
+          (ap (event_if deed i) (at ∙ w.in_default.is)) (did_none g.B.Bench.meaning g.B.Bench.fixed c.loop-c.self c.loop-c.events)
     ] in (
       subst (Did g.B.Bench.meaning g.B.Bench.fixed c.args.self.now c.match-held.self c.args.events.now c.match-held.events) (sym (deed_more deed i rows))
           (did_append g.B.Bench.meaning g.B.Bench.fixed c.args.self.now c.loop-c.self c.match-held.self c.args.events.now c.loop-c.events c.match-held.events

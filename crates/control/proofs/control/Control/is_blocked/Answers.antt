@@ -1,15 +1,8 @@
 use Rattle.std.proofs.Common.{get_or, is_some, None, sym, ap, ◌∙◌}
 use Rattle.machine.specs.Machine.{cut_on, due_on}
 use Rattle.control.specs.States.{state_of}
-use Rattle.control.proofs.Deciding.{cut_away, nothing_due, stays}
+use Rattle.control.proofs.Deciding.{cut_away, stays}
 use Rattle.control.proofs.control.Control.is_blocked.Goals as goal
-
-pub returns-then-is_none : goal.returns-then-is_none
-returns-then-is_none g c =
-    let s = state_of g.B.Bench.meaning c.args.self.now in
-    let i = c.args.controller in
-    let due = ap is_some (sym (c.requires.decided.starts i c.requires.there)) ∙ c.if-is_none.ensures in
-    record { value = nothing_due (due_on s i) (cut_on s i) (get_or s.shows i None) (get_or s.since i 0) due }
 
 pub returns-then-is_some : goal.returns-then-is_some
 returns-then-is_some g c =

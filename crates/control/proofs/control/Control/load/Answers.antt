@@ -4,7 +4,7 @@ use Rattle.planner.specs.Plans.{rows_of}
 use Rattle.machine.specs.Machine.{some_busy}
 use Rattle.control.specs.States.{state_of}
 use Rattle.control.proofs.BusyOnes.{lowest_is}
-use Rattle.control.proofs.Loads.{freshened, load_again, load_by, load_none, load_other, taken, unloaded}
+use Rattle.control.proofs.Loads.{freshened, load_again, load_by, load_other, taken, unloaded}
 use Rattle.control.proofs.control.Control.load.Goals as goal
 
 pub returns-then-controllers-ne0 : goal.returns-then-controllers-ne0
@@ -12,13 +12,6 @@ returns-then-controllers-ne0 g c =
     let a = c.args.self.now in
     let e = load_again (state_of g.B.Bench.meaning a) c.args.plan.now.controllers (λ z. c.if-controllers-ne0.true (c.controllers.ensures.value ∙ z)) in
     record { answer = sym e; loads = unloaded g.B.Bench.meaning a a c.args.plan.now Loaded e }
-
-pub returns-then-m-eq0 : goal.returns-then-m-eq0
-returns-then-m-eq0 g c =
-    let a = c.args.self.now in
-    let e = load_none (state_of g.B.Bench.meaning a) c.args.plan.now.controllers (sym c.controllers.ensures.value ∙ c.if-controllers-ne0.false)
-    (sym c.controllers-m.ensures.value ∙ c.if-m-eq0.true) in
-    record { answer = sym e; loads = unloaded g.B.Bench.meaning a a c.args.plan.now Counts e }
 
 pub returns-then-m-count : goal.returns-then-m-count
 returns-then-m-count g c =

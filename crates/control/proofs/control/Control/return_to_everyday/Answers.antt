@@ -1,8 +1,9 @@
-use Rattle.std.proofs.Common.{true, false, cond, eqb, Ok, Err, Result, sym, refl, ap, ◌∙◌}
+use Rattle.std.proofs.Common.{◌≡◌, rules, true, false, cond, eqb, Ok, Err, Result, sym, refl, ap, ◌∙◌}
+use Rattle.tasks.specs.declared.mode.Mode.TheVariants.{Critical}
 use Rattle.tasks.specs.declared.fault.ControlFault.{ControlFault}
 use Rattle.tasks.specs.declared.fault.ControlFault.TheVariants.{Busy, Everyday}
 use Rattle.machine.specs.Machine.{answered, settle, some_busy}
-use Rattle.machine.specs.declared.entry.Answer.TheVariants.{Done}
+use Rattle.machine.specs.declared.entry.Reply.TheVariants.{Done}
 use Rattle.machine.specs.declared.entry.Call.TheVariants.{Return}
 use Rattle.control.specs.States.{state_of}
 use Rattle.control.proofs.Calling.{carried, not_loaded, refused}
@@ -24,7 +25,8 @@ pub returns-then-is_some : goal.returns-then-is_some
 returns-then-is_some g c =
     let a = c.args.self.now in
     let s = state_of g.B.Bench.meaning a in
-    let is = return_by s c.in_ok-ready.field-0 c.in_ok-ready.ensures.value a.mode refl c.in_default.is true
+    let critical : a.mode ≡ Critical = search rules in
+    let is = return_by s c.in_ok-ready.field-0 c.in_ok-ready.ensures.value a.mode refl critical true
     (busy_told s c.lowest_busy.result true c.lowest_busy.ensures.value (sym c.is_some.ensures ∙ c.if-is_some.true)) in
     record { answer = sym is; steps = refused g.B.Bench.meaning g.B.Bench.fixed a a Return Busy (ap (answered (λ _. Done)) is) refl refl refl }
 
@@ -32,7 +34,8 @@ pub returns : goal.returns
 returns g c =
     let a = c.args.self.now in
     let s = state_of g.B.Bench.meaning a in
-    let is = return_by s c.in_ok-ready.field-0 c.in_ok-ready.ensures.value a.mode refl c.in_default.is false
+    let critical : a.mode ≡ Critical = search rules in
+    let is = return_by s c.in_ok-ready.field-0 c.in_ok-ready.ensures.value a.mode refl critical false
     (busy_told s c.lowest_busy.result false c.lowest_busy.ensures.value (sym c.is_some.ensures ∙ c.if-is_some.false)) in
     record {
       answer = sym is;

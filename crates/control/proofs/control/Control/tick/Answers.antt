@@ -26,13 +26,13 @@ returns-then-self-ge-END_OF_TIME g c =
     (tick_over (state_of g.B.Bench.meaning a) (length (lent list)) c.in_ok-ready.field-0 c.in_ok-ready.ensures.value c.if-self-ge-END_OF_TIME.true) in
     record { answer = answer; steps = steps; events = events }
 
-pub returns-then-places-count : goal.returns-then-places-count
-returns-then-places-count g c =
+pub returns-then-places-from : goal.returns-then-places-from
+returns-then-places-from g c =
     let a = c.args.self.now in
     let list = c.args.events.now in
     let (answer, steps, events) = tick_refused g.B.Bench.meaning g.B.Bench.fixed a list Places
     (tick_short (state_of g.B.Bench.meaning a) (length (lent list)) c.in_ok-ready.field-0 c.in_ok-ready.ensures.value c.if-self-ge-END_OF_TIME.false
-    (omega (arith, c.if-places-count.true, c.places.ensures.value, c.count.ensures.value))) in
+    (omega (arith, c.if-places-from.true, c.places.ensures.value, c.count.ensures.value))) in
     record { answer = answer; steps = steps; events = events }
 
 pub returns-in-Some : goal.returns-in-Some
@@ -41,7 +41,7 @@ returns-in-Some g c =
     let list = c.args.events.now in
     let (answer, steps, events) = tick_refused g.B.Bench.meaning g.B.Bench.fixed a list (Bench (Busy c.in-Some.controller))
     (tick_by (state_of g.B.Bench.meaning a) (length (lent list)) c.in_ok-ready.field-0 c.in_ok-ready.ensures.value c.if-self-ge-END_OF_TIME.false
-    (omega (arith, c.if-places-count.false, c.places.ensures.value, c.count.ensures.value)) (Some c.in-Some.controller) c.in-Some.ensures.value) in
+    (omega (arith, c.if-places-from.false, c.places.ensures.value, c.count.ensures.value)) (Some c.in-Some.controller) c.in-Some.ensures.value) in
     record { answer = answer; steps = steps; events = events }
 
 pub overflow_add-self : goal.overflow_add-self
@@ -57,7 +57,7 @@ returns g c =
     let list = c.args.events.now in
     let did = c.perform.ensures.did in
     let is = tick_by s (length (lent list)) c.in_ok-ready.field-0 c.in_ok-ready.ensures.value c.if-self-ge-END_OF_TIME.false
-    (omega (arith, c.if-places-count.false, c.places.ensures.value, c.count.ensures.value)) None c.in_default.ensures.value in
+    (omega (arith, c.if-places-from.false, c.places.ensures.value, c.count.ensures.value)) None c.in_default.ensures.value in
     let long : c.len.result ≡ length (tick_events s) = omega (arith, c.len.ensures.value, did.wrote.long, c.clear.ensures.empty) in
     record {
       answer = ap Ok long ∙ ap counted (sym is);

@@ -5,7 +5,7 @@ use Rattle.control.specs.Tables.{since_of}
 use Rattle.control.proofs.tables.Jobs.started.Goals as goal
 
 pub returns-then-controller-lt8 : goal.returns-then-controller-lt8
-returns-then-controller-lt8 c = record { after = map-set (λ (r : ControllerRecord). r.since) c.args.self.now.table c.args.controller _ }
+returns-then-controller-lt8 c = record { after = rw c.from.ensures (map-set (λ (r : ControllerRecord). r.since) c.args.self.now.table c.args.controller _) }
 
 pub returns-else-controller-lt8 : goal.returns-else-controller-lt8
 returns-else-controller-lt8 c = record {

@@ -1,8 +1,0 @@
-use Rattle.std.proofs.Common.{◌+◌, ◌%◌, rules}
-use Rattle.policies.proofs.Placed.{placed}
-use Rattle.policies.proofs.walk.around.Goals as goal
-
-pub returns : goal.returns
-returns c =
-    let count = c.args.count.value in
-    record { value = placed (λ k. (c.args.first + k) % count) count c.args.k _ (search rules) (search rules) }
