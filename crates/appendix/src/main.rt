@@ -1,16 +1,13 @@
 // Reads a task sheet from standard input and prints the appendix of its plan, or the line of its refusal.
 #![tactic(auto)]
 
-use printout::refusal_line;
+use printout::{APPENDIX_BYTES, refusal_line};
 use quotation::appendix_of;
 use std::io;
 use std::io::Read;
 
 // More than any sheet that keeps the rules has.
 const MOST_BYTES: u64 = 4096;
-
-// As many bytes as the appendix of 64 tasks needs.
-const APPENDIX_BYTES: usize = 970;
 
 fn main(rt: HostRuntime) -> io::Result<()> {
     let mut sheet = Vec::new(rt.alloc());

@@ -4,12 +4,9 @@
 #![tactic(auto)]
 
 use anyhow::Context;
-use printout::refusal_line;
+use printout::{APPENDIX_BYTES, refusal_line};
 use quotation::appendix_of;
 use std::str;
-
-// As many bytes as the appendix of 64 tasks needs.
-const APPENDIX_BYTES: usize = 970;
 
 // The length or the refusal, and then the bytes that were lent, where / stands for the end of a line.
 fn print_outcome(rt: &HostRuntime, sheet: &[u8], room: usize) -> anyhow::Result<()> {

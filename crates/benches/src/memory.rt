@@ -7,6 +7,8 @@ use crate::bench::HIGHEST_ROW;
 use crate::interlock::Interlock;
 use tasks::BenchFault;
 
+// The commands of the register bench, as functions of its bytes, since the interlock borrows these alone.
+
 // How many controllers the bytes have. They are at most eight, so the cast needs no `try_from`.
 pub(crate) fn shown(bytes: &[u8]) -> u8
     ensures value { result ≡ length (shown_by bytes.now) }

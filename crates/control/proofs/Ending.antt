@@ -1,10 +1,12 @@
 -- How a job is ended: the bench is told first, then the job is counted for its row.
-use Rattle.std.proofs.Common.{◌≡◌, ℕ, get_or, set, None, Ok, Err, Option, Result, sym, refl, ap, ◌∙◌, ap₂, arith}
+use Rattle.std.proofs.Common.{◌≡◌, ◌<◌, ◌≤◌, List, ⊎_elim, ℕ, get_or, set, None, Ok, Err, Option, Result, sym, refl, ap, ◌∙◌, ap₂, arith}
+use Rattle.std.proofs.lemmas.Bool.{cases_lt}
+use Rattle.std.proofs.lemmas.List.{set_past}
 use Rattle.tasks.specs.Modes.{number}
 use Rattle.tasks.specs.declared.fault.ControlFault.{ControlFault}
 use Rattle.planner.specs.Plans.{rows_of}
 use Rattle.benches.specs.Commands.{States}
-use Rattle.machine.specs.Machine.{State, answer, answered, by_result, count_for, end_answer, ended, settle}
+use Rattle.machine.specs.Machine.{State, answer, answered, by_result, count_at, count_for, end_answer, ended, none_yet, settle}
 use Rattle.machine.specs.declared.entry.Call.{Call}
 use Rattle.machine.specs.declared.entry.Counts.{Counts}
 use Rattle.machine.specs.declared.entry.Reply.TheVariants.{Done}
@@ -22,6 +24,17 @@ err_back row fault (Err f) e = let same : f ≡ fault = cc in ap Err same
 ok_back : (row held : Option ℕ) (r : Result (Unit {0}) ControlFault) → Ok held ≡ row_ended row r → (r ≡ Ok tt) × (held ≡ row)
 ok_back row held (Ok u) e = let same : held ≡ row = cc in (refl, same)
 ok_back row held (Err f) e = absurd (let z : ◌≡◌ {A = ℕ} 0 1 = cc in omega arith)
+
+-- the counts of one row changed by a rule, where there is such a row
+pub counted_by
+    : (t : Tallies) (row : ℕ) (change : Counts → Counts) (table : List Counts)
+    → (row < 64 → (next : Counts) × (next ≡ change (get_or t.table row none_yet)) × (table ≡ set t.table row next))
+    → (64 ≤ row → table ≡ t.table) → table ≡ count_at t.table row change
+counted_by t row change table there beyond =
+    ⊎_elim
+    (λ (l : row < 64). let (next, is, then) = there l in then ∙ ap (set t.table row) is)
+    (λ (l : 64 ≤ row). beyond l ∙ sym (set_past t.table row (change (get_or t.table row none_yet)) (omega (arith, t.whole))))
+    (cases_lt row 64)
 
 module _ {B F : Type 0} (means : B → States) (keeps : B → F) (a b : Control B) (c : ℕ) (r : Result (Option ℕ) ControlFault) (d : Ends means keeps a b c r) where
   abbrev s : State

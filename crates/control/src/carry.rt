@@ -1,4 +1,5 @@
-// What a tick decided, carried out.
+// What a tick decided, carried out. The control and the list of events stay two arguments: a struct of both would borrow the
+// control for as long, and its clauses would say the same of both.
 ghost use Rattle.std.specs.Prelude.{◌≡◌, ℕ, ◌+◌, ◌*◌, ◌<◌, ◌≤◌, [], ◌∷◌, length, Some, None, slice_index_or};
 ghost use Rattle.records.specs.Lists.{lent};
 ghost use Rattle.machine.specs.Below.{first_below};
@@ -40,13 +41,13 @@ impl<B: Bench> Control<B> {
             }
             Event::Cut { controller, row } => {
                 if self.bench.end(controller).is_ok() {
-                    self.tallies.set(row, with_cut(self.tallies.of(row)));
+                    self.tallies.count(row, with_cut);
                 }
             }
             Event::Start { controller, row } => {
                 if self.bench.start(controller, row).is_ok() {
                     self.jobs.started(controller, self.next);
-                    self.tallies.set(row, with_start(self.tallies.of(row)));
+                    self.tallies.count(row, with_start);
                 }
             }
         }
@@ -68,6 +69,7 @@ impl<B: Bench> Control<B> {
         requires room { events.old.len + length (B.Bench.meaning self.old.bench) ≤ length (lent events.old) }
         ensures did { Did B.Bench.meaning B.Bench.fixed self.old self.new events.old events.new (deed_events deed (length (B.Bench.meaning self.old.bench)) rows.now) }
     {
+        // By index: over `(0..count).zip(rows)` the proof did not close.
         for c in 0..self.bench.count() {
             let held = rows[usize::from(c)];
             if let Some(row) = held {

@@ -95,13 +95,14 @@ impl<B: Bench> Control<B> {
         Ok(events.len())
     }
 
-    // The job on the controller is done.
+    // The job on the controller is done. Beside `strike` a second short body: one body with a closure would have to promise
+    // what the closure counts.
     pub fn report(&mut self, controller: u8) -> Result<(), ControlFault>
         ensures answer { result ≡ end_answer (state_of B.Bench.meaning self.old) controller }
         ensures steps { Steps B.Bench.meaning B.Bench.fixed self.old self.new (Report controller) }
     {
         if let Some(row) = self.end(controller)? {
-            self.tallies.set(row, with_report(self.tallies.of(row)));
+            self.tallies.count(row, with_report);
         }
         Ok(())
     }
@@ -112,7 +113,7 @@ impl<B: Bench> Control<B> {
         ensures steps { Steps B.Bench.meaning B.Bench.fixed self.old self.new (Strike controller) }
     {
         if let Some(row) = self.end(controller)? {
-            self.tallies.set(row, with_cut(self.tallies.of(row)));
+            self.tallies.count(row, with_cut);
         }
         Ok(())
     }

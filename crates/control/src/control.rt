@@ -2,8 +2,8 @@ use crate::tables::{Jobs, Tallies};
 use planner::Plan;
 use tasks::Mode;
 
-// A control over a bench. It is not loaded yet while its plan has no controllers. That is a plan not yet filled, which every
-// answer speaks of as it is, so no `Option` stands around it.
+// A control over a bench. It is not loaded yet while its plan has no controllers: a plan not yet filled, which is what the
+// machine's state and the promise of a load speak of too. An `Option` around it would say the same twice.
 #[derive(Drop)]
 pub struct Control<B> {
     pub(crate) bench: B,

@@ -29,11 +29,7 @@ fn by_controller<F: Fn(u8) -> Option<u8>>(rule: F) -> [Option<u8>; 8]
     requires callable { F.IsAlwaysCallable rule }
     ensures each { (c : ℕ) → c < 8 → F.post rule c (slice_index_or result c None) }
 {
-    let mut rows = [None; 8];
-    for (c, row) in rows.iter_mut().enumerate() {
-        *row = rule(c as u8);
-    }
-    rows
+    std::array::from_fn(|c| rule(c as u8))
 }
 
 impl<B: Bench> Control<B> {
@@ -58,13 +54,9 @@ impl<B: Bench> Control<B> {
     fn spent(&self, controller: u8) -> bool
         ensures value { result ≡ spent_on (state_of B.Bench.meaning self.now) controller }
     {
-        match self.row_on(controller) {
-            None => false,
-            Some(row) => {
-                let ran = self.next.saturating_sub(self.jobs.since(controller));
-                u64::from(self.budget(row)) <= ran
-            }
-        }
+        let ran = self.next.saturating_sub(self.jobs.since(controller));
+        self.row_on(controller)
+            .is_some_and(|row| u64::from(self.budget(row)) <= ran)
     }
 
     fn some_spent(&self) -> bool
@@ -131,7 +123,7 @@ impl<B: Bench> Control<B> {
         requires there { controller < length (B.Bench.meaning self.now.bench) }
         ensures value { result ≡ blocked (state_of B.Bench.meaning self.now) controller }
     {
-        let at = controller as usize;
+        let at = usize::from(controller);
         if turn.starts[at].is_none() {
             return false;
         }

@@ -1,4 +1,5 @@
-ghost use Rattle.std.specs.Prelude.{◌≡◌, replicate, slice_index_or, slice_set};
+ghost use Rattle.std.specs.Prelude.{◌≡◌, ◌<◌, ◌≤◌, replicate, slice_index_or, slice_set};
+ghost use Rattle.machine.specs.declared.entry.Counts.{Counts};
 ghost use Rattle.machine.specs.Machine.{none_yet, with_cut, with_report, with_start};
 
 use crate::tables::Tallies;
@@ -23,12 +24,15 @@ impl Tallies {
             .unwrap_or_default()
     }
 
-    // The counts of a row from now on, where there is such a row.
-    pub(crate) fn set(&mut self, row: u8, counts: Counts)
-        ensures after { self.new.table ≡ slice_set self.old.table row counts }
+    // Counts by the rule for a row, where there is such a row.
+    pub(crate) fn count<F: FnOnce(Counts) -> Counts + Drop>(&mut self, row: u8, rule: F)
+        requires callable { F.IsAlwaysCallable rule }
+        ensures there { row < 64 → (next : Counts) × F.post rule (slice_index_or self.old.table row none_yet) next × (self.new.table ≡ slice_set self.old.table row next) }
+        ensures beyond { 64 ≤ row → self.new.table ≡ self.old.table }
     {
         if row < 64 {
-            self.table[usize::from(row)] = counts;
+            let counts = self.table[usize::from(row)];
+            self.table[usize::from(row)] = rule(counts);
         }
     }
 }

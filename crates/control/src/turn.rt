@@ -1,5 +1,6 @@
 // What a tick will do: whether it switches, and by controller the row whose job it cuts and the row that it starts. Two
-// tables and not one of pairs, since each is carried out whole, the cuts before the starts.
+// tables and not one of pairs, since each is carried out whole, the cuts before the starts. That it is what the tick decides
+// (`decided`) is no invariant of it: it speaks of the control too, which changes while the turn is carried out.
 #[derive(Clone, Copy)]
 pub(crate) struct Turn {
     pub(crate) switches: bool,

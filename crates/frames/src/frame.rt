@@ -63,7 +63,8 @@ impl<'a> Line<'a> {
         Ok(())
     }
 
-    // The frame, where the digits are good. The longest has eleven bytes, so no more are decoded.
+    // The frame, where the digits are good. The longest has eleven bytes, so no more are decoded, into
+    // memory of a fixed size.
     fn decoded(self) -> Result<Frame<'a>, FrameFault>
         requires { length self.digits.now % 2 ≡ 0 }
         ensures value { shown result ≡ framed self.entry.number (byte_at self.entry.digits.now 0) (drop 2 self.entry.digits.now) }
@@ -101,9 +102,8 @@ impl<'a> Line<'a> {
         requires { 2 ≤ length self.digits.now }
         ensures value { MatchResult result (λ own. (own.now ≡ drop 2 self.entry.digits.now) × (length (drop 2 self.entry.digits.now) ≡ N)) (λ fault. (fault ≡ NoFrame self.entry.number) × (length (drop 2 self.entry.digits.now) ≢ N)) }
     {
-        match <&[u8; N]>::try_from(&self.digits[2..]) {
-            Ok(own) => Ok(own),
-            Err(_) => Err(FrameFault::NoFrame { line: self.number }),
-        }
+        <&[u8; N]>::try_from(&self.digits[2..]).map_err(|_| FrameFault::NoFrame {
+            line: self.number,
+        })
     }
 }

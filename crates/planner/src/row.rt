@@ -4,8 +4,7 @@ ghost use Rattle.tasks.specs.Modes.{number};
 
 use tasks::{Mode, PerMode, Task};
 
-// The start in a mode that the task does not belong to. A number and no Option, since the appendix writes FFFF there and a
-// row answers a start in each mode.
+// The start in a mode that the task does not belong to. A number and no Option: `Row::start` promises one in each mode.
 pub const NO_START: u16 = 65535;
 
 // A task with its controller and its starts. The default stands where no row is.

@@ -18,7 +18,7 @@ pub(crate) struct Search<'a> {
     pub(crate) placed: &'a [Row],
     pub(crate) task: &'a Task,
     // For each placed row the greatest common divisor of the task's period and its own: found once, for every controller, mode
-    // and start that is then tried.
+    // and start that is then tried. An array beside the rows, since these are the caller's and memory is fixed.
     divisors: [u32; 64],
     ghost range: { InRange task.now },
     ghost short: { length placed.now ≤ length divisors },
@@ -59,6 +59,7 @@ impl<'a> Search<'a> {
         if row.controller != controller || !row.task.belongs(mode) {
             return 0;
         }
+        // Two literals: one function for both would need the facts of a slot's invariant as clauses.
         let own = Slot {
             start,
             budget: self.task.budget(mode),
@@ -81,6 +82,7 @@ impl<'a> Search<'a> {
     {
         let last = u32::from(self.task.deadline - self.task.budget(mode));
         let mut next = 0;
+        // Left by label at the first row that meets: no count, since a start that meets is followed by the next that may not.
         'starts: while next <= last {
             let start = next;
             for (row, divisor) in self.placed.iter().zip(&self.divisors) {

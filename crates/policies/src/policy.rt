@@ -16,7 +16,8 @@ pub trait Policy {
     fn place(&self, level: u8, k: u8) -> Option<u8>
         ensures value { result ≡ slice_get (meaning.order self.now level) k };
 
-    // Tells the policy that a task of this level went to this controller. No body serves each policy, so none stands here.
+    // Tells the policy that a task of this level went to this controller. No body serves each policy, so none stands here; nor
+    // for `count`, which reads a field of the policy's own.
     fn tell(&mut self, level: u8, controller: u8)
         ensures after { self.new ≡ meaning.told self.old level controller };
 

@@ -8,6 +8,9 @@ use crate::line::{put_line, two_bytes};
 use planner::{Plan, Row};
 use tasks::AppendixFault;
 
+// As many bytes as the appendix of 64 tasks needs.
+pub const APPENDIX_BYTES: usize = 970;
+
 // The bytes of the line of a row.
 const ROW_BYTES: usize = 15;
 

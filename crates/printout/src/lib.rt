@@ -6,5 +6,5 @@ mod kind;
 mod line;
 mod refusal;
 
-pub use appendix::write_appendix;
-pub use refusal::refusal_line;
+pub use appendix::{APPENDIX_BYTES, write_appendix};
+pub use refusal::{numbered_line, refusal_line};

@@ -6,13 +6,10 @@ use control::Control;
 use machine::Call;
 use planner::Plan;
 use policies::{Ends, Front, Policy, Round};
-use printout::{refusal_line, write_appendix};
+use printout::{APPENDIX_BYTES, refusal_line, write_appendix};
 use runs::plan_and_run;
 use std::io;
 use tasks::Task;
-
-// As many bytes as the appendix of 64 tasks needs.
-const APPENDIX_BYTES: usize = 970;
 
 // What is planned by which policy, on which kind of bench it runs, and which calls are sent then.
 #[derive(Clone, Copy)]

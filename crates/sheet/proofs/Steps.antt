@@ -1,6 +1,6 @@
 -- What one turn of the reading keeps, and what it has delivered when it ends.
 use Rattle.std.proofs.Common.{◌≡◌, ℕ, zero, suc, ◌+◌, ◌-◌, ◌<◌, ◌≤◌, Bool, true, false, cond, ltb, List, [], ◌∷◌, ◌++◌, length, get_or, take, drop, set, IsErrAnd, Some, None, Ok, Err, Option, Result, sym, refl, ap, ◌∙◌, subst, arith}
-use Rattle.std.proofs.lemmas.List.{take_at, drop_more, set_at, append_assoc, length_push, length-append, length-drop}
+use Rattle.std.proofs.lemmas.List.{take_at, drop_more, set_at, append_assoc, length_push}
 use Rattle.std.proofs.lemmas.Bool.{ltb-false}
 use Rattle.std.proofs.lemmas.Result.{err_from_is_err_and}
 use Rattle.tasks.specs.declared.task.Task.{Task}
@@ -120,10 +120,6 @@ module _ {bytes : List ℕ} {before : List Task} {m tasks i n : ℕ} {ls : Lines
         list = so.written ∙ ap (λ k. kept ++ drop k before) (sym so.long) ∙ sym (ap (λ x. places_after x.rows before) s);
         count = so.count ∙ sym so.long ∙ sym (ap (λ x. length_after x.rows old) s);
       }
-
-  -- there are as many places as at first
-  pub same_room : i ≤ tasks → length places ≡ length before
-  same_room l = ap length so.written ∙ length-append kept (drop i before) ∙ rw length-drop (omega (arith, so.long, so.room))
 
   pub row_refused : (old : ℕ) (f : SheetFault) → i < tasks → Err f ≡ row_of (n + 1) kept (next_told n ls) → Outcome bytes before old (Err f) places len
   row_refused old f l e =

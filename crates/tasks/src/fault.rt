@@ -1,5 +1,5 @@
 // Why something is sent back. A fault of the digits lies inside one of the frame, and that inside one of the sheet; lines and
-// columns count from 1. Rows count from 0.
+// columns count from 1. Rows count from 0. The conversions are written out, since one that a derive makes has no contract.
 ghost use Rattle.std.specs.Prelude.{◌≡◌};
 ghost use Rattle.tasks.specs.declared.fault.FrameFault.TheVariants.{Digits};
 ghost use Rattle.tasks.specs.declared.fault.SheetFault.TheVariants.{Frame, Places};

@@ -56,9 +56,6 @@ impl<'a> Reader<'a> {
         ensures value { shown_frame result ≡ next_told self.old.line (left self.old) }
         ensures moved { Moved self.old self.new }
     {
-        match self.next_line()? {
-            Some(line) => Ok(Some(line.frame()?)),
-            None => Ok(None),
-        }
+        self.next_line()?.map(|line| line.frame()).transpose()
     }
 }

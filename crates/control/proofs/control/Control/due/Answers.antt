@@ -14,9 +14,6 @@ is_due-requires g c =
     let rows = c.rows-row-items in
     record { period = period_read (rows_of c.args.self.now.plan) rows.result.now rows.ensures.value c.loop-i.i _ rows.ensures.stands c.loop-i-test.true }
 
-pub overflow_cast-result : goal.overflow_cast-result
-overflow_cast-result g c = omega (arith, c.rows-row-items.ensures.stands.short, ap length c.rows-row-items.ensures.value)
-
 pub returns-then-is_due : goal.returns-then-is_due
 returns-then-is_due g c =
     let rows = rows_of c.args.self.now.plan in

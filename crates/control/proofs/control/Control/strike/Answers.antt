@@ -1,8 +1,8 @@
-use Rattle.std.proofs.Common.{◌≡◌, refl, ap, ◌∙◌, sym, rules}
-use Rattle.machine.specs.Machine.{count_at, count_for, with_cut}
+use Rattle.std.proofs.Common.{◌≡◌, refl, ap, ◌∙◌, sym, rules, of_calls, get_or}
+use Rattle.machine.specs.Machine.{count_for, none_yet, with_cut}
 use Rattle.machine.specs.declared.entry.Call.TheVariants.{Strike}
 use Rattle.control.proofs.Calling.{carried}
-use Rattle.control.proofs.Ending.{refused_end, taken_end}
+use Rattle.control.proofs.Ending.{counted_by, refused_end, taken_end}
 use Rattle.control.proofs.control.Control.strike.Goals as goal
 
 pub returns-in_err-row : goal.returns-in_err-row
@@ -14,9 +14,11 @@ returns-in_err-row g c =
 
 pub returns-in-Some : goal.returns-in-Some
 returns-in-Some g c =
-    let t = c.end.new.self.tallies.table in
+    let t = c.end.new.self.tallies in
     let r = c.in-Some.row in
-    let counted : c.set.new.self.table ≡ count_at t r with_cut = search rules in
+    let counted = counted_by t r with_cut c.count.new.self.table
+    (λ l. let (next, given, then) = c.count.ensures.there l in let is : next ≡ with_cut (get_or t.table r none_yet) = search (of_calls, rules) in (next, is, then))
+    c.count.ensures.beyond in
     let (done, steps) = taken_end g.B.Bench.meaning g.B.Bench.fixed c.args.self.now c.end.new.self c.args.controller _ c.end.ensures.ends
-    (Strike c.args.controller) c.in_ok-row.field-0 (sym c.in_ok-row.was) refl with_cut refl c.set.new.self (counted ∙ ap (λ o. count_for t o with_cut) (sym c.in-Some.is)) in
+    (Strike c.args.controller) c.in_ok-row.field-0 (sym c.in_ok-row.was) refl with_cut refl c.count.new.self (counted ∙ ap (λ o. count_for t.table o with_cut) (sym c.in-Some.is)) in
     record { answer = done; steps = steps }
