@@ -1,12 +1,10 @@
 -- How a job is ended: the bench is told first, then the job is counted for its row.
-use Rattle.std.proofs.Common.{◌≡◌, ◌<◌, ◌≤◌, List, ⊎_elim, ℕ, get_or, set, None, Ok, Err, Option, Result, sym, refl, ap, ◌∙◌, ap₂, arith}
-use Rattle.std.proofs.lemmas.Bool.{cases_lt}
-use Rattle.std.proofs.lemmas.List.{set_past}
+use Rattle.std.proofs.Common.{◌≡◌, ℕ, get_or, set, None, Ok, Err, Option, Result, sym, refl, ap, ◌∙◌, ap₂, arith}
 use Rattle.tasks.specs.Modes.{number}
 use Rattle.tasks.specs.declared.fault.ControlFault.{ControlFault}
 use Rattle.planner.specs.Plans.{rows_of}
 use Rattle.benches.specs.Commands.{States}
-use Rattle.machine.specs.Machine.{State, answer, answered, by_result, count_at, count_for, end_answer, ended, none_yet, settle}
+use Rattle.machine.specs.Machine.{State, answer, answered, by_result, count_for, end_answer, ended, settle}
 use Rattle.machine.specs.declared.entry.Call.{Call}
 use Rattle.machine.specs.declared.entry.Counts.{Counts}
 use Rattle.machine.specs.declared.entry.Reply.TheVariants.{Done}
@@ -14,7 +12,7 @@ use Rattle.control.specs.Calls.{Ends, Steps, row_ended}
 use Rattle.control.specs.States.{state_of}
 use Rattle.control.specs.Tables.{since_of}
 use Rattle.control.specs.declared.control.Control.{Control}
-use Rattle.control.specs.declared.tables.Tallies.{Tallies}
+use Rattle.control.specs.declared.table.Table.{Table}
 use Rattle.control.proofs.Calling.{refused}
 
 err_back : (row : Option ℕ) (fault : ControlFault) (r : Result (Unit {0}) ControlFault) → Err fault ≡ row_ended row r → r ≡ Err fault
@@ -25,23 +23,12 @@ ok_back : (row held : Option ℕ) (r : Result (Unit {0}) ControlFault) → Ok he
 ok_back row held (Ok u) e = let same : held ≡ row = cc in (refl, same)
 ok_back row held (Err f) e = absurd (let z : ◌≡◌ {A = ℕ} 0 1 = cc in omega arith)
 
--- the counts of one row changed by a rule, where there is such a row
-pub counted_by
-    : (t : Tallies) (row : ℕ) (change : Counts → Counts) (table : List Counts)
-    → (row < 64 → (next : Counts) × (next ≡ change (get_or t.table row none_yet)) × (table ≡ set t.table row next))
-    → (64 ≤ row → table ≡ t.table) → table ≡ count_at t.table row change
-counted_by t row change table there beyond =
-    ⊎_elim
-    (λ (l : row < 64). let (next, is, then) = there l in then ∙ ap (set t.table row) is)
-    (λ (l : 64 ≤ row). beyond l ∙ sym (set_past t.table row (change (get_or t.table row none_yet)) (omega (arith, t.whole))))
-    (cases_lt row 64)
-
 module _ {B F : Type 0} (means : B → States) (keeps : B → F) (a b : Control B) (c : ℕ) (r : Result (Option ℕ) ControlFault) (d : Ends means keeps a b c r) where
   abbrev s : State
   s = state_of means a
 
   -- the same control over the other bench, with other counts
-  abbrev with_counts : Tallies → Control B
+  abbrev with_counts : Table Counts 64 → Control B
   with_counts t = record { bench = b.bench; plan = b.plan; mode = b.mode; opening = b.opening; next = b.next; jobs = b.jobs; tallies = t }
 
   pub refused_end
@@ -60,7 +47,7 @@ module _ {B F : Type 0} (means : B → States) (keeps : B → F) (a b : Control 
               next = d.next i;
               shows = same i;
               since = since_of (d.jobs i);
-              counts = (d.tallies i).table;
+              counts = (d.tallies i).records;
             })
             d.plan d.fixed,
       )
@@ -68,12 +55,12 @@ module _ {B F : Type 0} (means : B → States) (keeps : B → F) (a b : Control 
   pub taken_end
       : (call : Call) (held : Option ℕ) → Ok held ≡ r → answer s call ≡ answered (λ _. Done) (end_answer s c)
       → (change : Counts → Counts) → settle s call (Ok Done) ≡ ended s c change
-      → (t : Tallies) → t.table ≡ count_for b.tallies.table held change
+      → (t : Table Counts 64) → t.records ≡ count_for b.tallies.records held change
       → (Ok tt ≡ end_answer s c) × Steps means keeps a (with_counts t) call
   taken_end call held e kind change settled t counted =
       let (done, is) = ok_back _ held (end_answer s c) (e ∙ d.row) in
       let same : means b.bench ≡ set (means a.bench) c None = d.shows ∙ ap (λ (x : Result (Unit {0}) ControlFault). by_result x (set (means a.bench) c None) (means a.bench)) done in
-      let counts : t.table ≡ count_for a.tallies.table (get_or (means a.bench) c None) change = counted ∙ ap₂ (λ (n : Tallies) (o : Option ℕ). count_for n.table o change) d.tallies is in (
+      let counts : t.records ≡ count_for a.tallies.records (get_or (means a.bench) c None) change = counted ∙ ap₂ (λ (n : Table Counts 64) (o : Option ℕ). count_for n.records o change) d.tallies is in (
         sym done,
         record {
           state = (λ i. record {

@@ -2,6 +2,7 @@
 pub mod BusyOnes
 pub mod Calling
 pub mod Carrying
+pub mod Changed
 pub mod Deciding
 pub mod Ending
 pub mod Firsts

@@ -15,5 +15,5 @@ module _ (rows xs : List Row) (e : xs ≡ rows) (i : ℕ) where
   row_past l = ap (λ ys. slice_get ys i) (sym e) ∙ slice_get_past xs i l
 
   -- and it has a period
-  pub period_read : (m : ℕ) → Stands m rows → i < length xs → 1 ≤ (get_or xs i no_row).task.period
-  period_read m st l = (st.sound i (get_or xs i no_row) (row_read l)).range.period.0
+  pub period_read : (m : ℕ) → Stands m rows → (d : Row) → i < length xs → 1 ≤ (get_or xs i d).task.period
+  period_read m st d l = (st.sound i (get_or xs i d) (ap (λ ys. slice_get ys i) (sym e) ∙ slice_get-get_or xs i d l)).range.period.0

@@ -16,5 +16,5 @@ state_of meaning control = record {
   next = control.next;
   shows = meaning control.bench;
   since = since_of control.jobs;
-  counts = control.tallies.table;
+  counts = control.tallies.records;
 }

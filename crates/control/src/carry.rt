@@ -41,13 +41,13 @@ impl<B: Bench> Control<B> {
             }
             Event::Cut { controller, row } => {
                 if self.bench.end(controller).is_ok() {
-                    self.tallies.count(row, with_cut);
+                    self.tallies.change(row, with_cut);
                 }
             }
             Event::Start { controller, row } => {
                 if self.bench.start(controller, row).is_ok() {
                     self.jobs.started(controller, self.next);
-                    self.tallies.count(row, with_start);
+                    self.tallies.change(row, with_start);
                 }
             }
         }

@@ -7,10 +7,10 @@ ghost use Rattle.control.specs.Calls.{Ends, EventsAfter, Loads, Steps, counted};
 ghost use Rattle.control.specs.States.{state_of};
 
 use crate::control::Control;
-use crate::tables::{Jobs, Tallies};
-use crate::tallies::{with_cut, with_report};
+use crate::jobs::{ControllerRecord, Jobs};
+use crate::tallies::{Tallies, with_cut, with_report};
 use benches::{Bench, lowest_busy};
-use machine::Event;
+use machine::{Counts, Event};
 use planner::Plan;
 use records::Records;
 use tasks::{BenchFault, ControlFault, Mode};
@@ -30,8 +30,8 @@ impl<B: Bench> Control<B> {
             mode: Mode::Everyday,
             opening: 0,
             next: 0,
-            jobs: Jobs::new(),
-            tallies: Tallies::new(),
+            jobs: Jobs::filled(ControllerRecord::default()),
+            tallies: Tallies::filled(Counts::default()),
         }
     }
 
@@ -67,8 +67,8 @@ impl<B: Bench> Control<B> {
         self.mode = Mode::Everyday;
         self.opening = 0;
         self.next = 0;
-        self.jobs = Jobs::new();
-        self.tallies = Tallies::new();
+        self.jobs = Jobs::filled(ControllerRecord::default());
+        self.tallies = Tallies::filled(Counts::default());
         Ok(())
     }
 
@@ -102,7 +102,7 @@ impl<B: Bench> Control<B> {
         ensures steps { Steps B.Bench.meaning B.Bench.fixed self.old self.new (Report controller) }
     {
         if let Some(row) = self.end(controller)? {
-            self.tallies.count(row, with_report);
+            self.tallies.change(row, with_report);
         }
         Ok(())
     }
@@ -113,7 +113,7 @@ impl<B: Bench> Control<B> {
         ensures steps { Steps B.Bench.meaning B.Bench.fixed self.old self.new (Strike controller) }
     {
         if let Some(row) = self.end(controller)? {
-            self.tallies.count(row, with_cut);
+            self.tallies.change(row, with_cut);
         }
         Ok(())
     }

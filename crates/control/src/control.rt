@@ -1,4 +1,5 @@
-use crate::tables::{Jobs, Tallies};
+use crate::jobs::Jobs;
+use crate::tallies::Tallies;
 use planner::Plan;
 use tasks::Mode;
 

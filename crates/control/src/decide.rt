@@ -62,12 +62,7 @@ impl<B: Bench> Control<B> {
     fn some_spent(&self) -> bool
         ensures value { result ≡ is_some (first_below (length (B.Bench.meaning self.now.bench)) (spent_on (state_of B.Bench.meaning self.now))) }
     {
-        for c in 0..self.bench.count() {
-            if self.spent(c) {
-                return true;
-            }
-        }
-        false
+        (0..self.bench.count()).any(|c| self.spent(c))
     }
 
     // Whether the tick switches to the critical mode.
@@ -81,12 +76,11 @@ impl<B: Bench> Control<B> {
     pub(crate) fn due(&self, controller: u8, mode: Mode, elapsed: u64) -> Option<u8>
         ensures value { result ≡ due_in (rows_of self.now.plan) (number mode) elapsed controller }
     {
-        for (i, row) in self.plan.rows().iter().enumerate() {
-            if is_due(row, controller, mode, elapsed) {
-                return Some(i as u8);
-            }
-        }
-        None
+        self.plan
+            .rows()
+            .iter()
+            .position(|row| is_due(row, controller, mode, elapsed))
+            .map(|row| row as u8)
     }
 
     // The row whose job the tick cuts on the controller: any where the tick switches, else one that is spent.
@@ -138,11 +132,6 @@ impl<B: Bench> Control<B> {
         requires decided { Decided (state_of B.Bench.meaning self.now) turn.now }
         ensures value { result ≡ first_below (length (B.Bench.meaning self.now.bench)) (blocked (state_of B.Bench.meaning self.now)) }
     {
-        for c in 0..self.bench.count() {
-            if self.is_blocked(turn, c) {
-                return Some(c);
-            }
-        }
-        None
+        (0..self.bench.count()).find(|&c| self.is_blocked(turn, c))
     }
 }

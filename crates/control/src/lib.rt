@@ -7,7 +7,7 @@ mod control;
 mod decide;
 mod jobs;
 mod questions;
-mod tables;
+mod table;
 mod tallies;
 mod turn;
 

@@ -33,7 +33,7 @@ impl<B: Bench> Control<B> {
         if usize::from(row) >= self.plan.rows().len() {
             return Err(ControlFault::NoRow { row });
         }
-        Ok(self.tallies.of(row))
+        Ok(self.tallies.get_or(row, Counts::default()))
     }
 
     // The mode, its opening, the next instant, and the busy controllers.

@@ -36,7 +36,7 @@ impl<'a> Search<'a> {
         ensures task { result.task.now ≡ task.now }
     {
         let mut divisors = [0; 64];
-        // By index: of what is written through `iter_mut().zip(placed)` a proof knows nothing, and `array::from_fn` was not proved.
+        // By index: tried with `iter_mut().zip(placed)` and with `array::from_fn`, and neither proof closes.
         for (i, row) in placed.iter().enumerate() {
             divisors[i] = gcd(u32::from(task.period), u32::from(row.task.period));
         }

@@ -14,6 +14,7 @@ pub struct Ends {
 }
 
 impl Ends {
+    // The text of `Front::new`, but another promise of the order: one function for both would need a trait with the order in it.
     pub fn new(count: u8) -> Ends
         ensures count { ends_means.count result ≡ clamped count }
         ensures order { (level : ℕ) → ends_means.order result level ≡ by_level level (clamped count) }

@@ -43,7 +43,8 @@ fn put_rows(rows: &[Row], out: &mut [u8])
     requires { 15 * length rows.now ≤ length out.old }
     ensures after { out.new ≡ flat_map row_text rows.now ++ drop (15 * length rows.now) out.old }
 {
-    // By index: of what is written through `chunks_exact_mut(ROW_BYTES).zip(rows)` a proof knows nothing.
+    // By index: tried with `chunks_exact_mut(ROW_BYTES).zip(rows)`, and the proof does not close, since of what is written
+    // through it nothing is known.
     for (i, row) in rows.iter().enumerate() {
         put_row(row, &mut out[ROW_BYTES * i..]);
     }

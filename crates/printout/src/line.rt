@@ -17,7 +17,8 @@ pub(crate) fn put_line(bytes: &[u8], out: &mut [u8])
     requires { 2 * length bytes.now + 1 ≤ length out.old }
     ensures after { out.new ≡ line_of bytes.now ++ drop (2 * length bytes.now + 1) out.old }
 {
-    // By index: of what is written through `chunks_exact_mut(2).zip(bytes)` a proof knows nothing.
+    // By index: tried with `chunks_exact_mut(2).zip(bytes)`, and the proof does not close, since of what is written through it
+    // nothing is known.
     for (i, b) in bytes.iter().enumerate() {
         let [high, low] = print_byte(*b);
         out[2 * i] = high;

@@ -9,7 +9,8 @@ mod methods;
 #[derive(Clone, Copy)]
 pub struct Full;
 
-// Records in the order in which they were added: the first `len` of the places.
+// Records in the order in which they were added: the first `len` of the places. The length stands beside lent places since a
+// `Vec` would need the heap, which no library here uses.
 #[derive(Drop)]
 pub struct Records<'a, R> {
     places: &'a mut [R],

@@ -6,7 +6,8 @@ use machine::{Call, Counts, Entry, Reply};
 use std::alloc::{AllocError, Global};
 use std::fmt;
 
-// The calls of the script, then a question for the counts of each row, and one for each controller; and their entries.
+// The calls of the script, then a question for the counts of each row, and one for each controller; and their entries. They stand in two
+// lists, since a run reads the calls while it writes the entries.
 #[derive(Drop)]
 pub(crate) struct Journal {
     pub(crate) calls: Vec<Call>,

@@ -24,7 +24,8 @@ pub fn run<B: Bench>(
 {
     control.load(plan)?;
     let count = calls.len().min(journal.len());
-    // By index: of what is written through `journal.iter_mut().zip(calls)` a proof knows nothing.
+    // By index: tried with `journal.iter_mut().zip(calls)`, and the proof does not close, since of what is written through it
+    // nothing is known.
     for i in 0..count {
         let call = calls[i];
         journal[i] = Entry {

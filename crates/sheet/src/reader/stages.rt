@@ -16,7 +16,8 @@ fn counts_in_range(m: u8, tasks: u8) -> bool
 }
 
 // Each call says how the reader moved on (`moved`). That is a fact of the call and of no reader by itself, so no invariant
-// can take it.
+// can take it. The heads of `opening`, `row` and `close` differ in a pattern, which no function can take: one head for all would
+// take a closure that maps a frame to its fields, and be no shorter.
 impl<'a> Reader<'a> {
     // The opening: the count of controllers, and the number of tasks.
     pub(crate) fn opening(&mut self, places: usize) -> Result<(u8, u8), SheetFault>

@@ -1,23 +1,16 @@
-use Rattle.std.proofs.Common.{◌≡◌, length, sym, ap, ◌∙◌, arith}
-use Rattle.machine.specs.Below.{first_below}
+use Rattle.std.proofs.Common.{ℕ, length, subst, rules}
+use borrow.Author.Tests.{tests}
+use Rattle.std.specs.Iterator.Runs.{ItemsCountUp}
+use Rattle.std.specs.declared.ops.Range.{Range}
+use Rattle.std.proofs.iter.runs.Sources.{range_runs}
 use Rattle.machine.specs.Machine.{blocked}
 use Rattle.control.specs.States.{state_of}
-use Rattle.control.proofs.Firsts.{first_here, none_more}
+use Rattle.control.proofs.Firsts.{find_below}
 use Rattle.control.proofs.control.Control.blocked.Goals as goal
-
-pub returns-then-is_blocked : goal.returns-then-is_blocked
-returns-then-is_blocked g c =
-    let s = state_of g.B.Bench.meaning c.args.self.now in
-    let here = sym c.is_blocked.ensures.value ∙ c.if-is_blocked.true in
-    record { value = sym (first_here (length s.shows) c.loop-c.c (blocked s) (omega arith) c.loop-c.invariant here) }
-
-pub loop-c-preserved : goal.loop-c-preserved
-loop-c-preserved g c =
-    let s = state_of g.B.Bench.meaning c.args.self.now in
-    none_more c.loop-c.c (blocked s) c.loop-c.invariant (sym c.is_blocked.ensures.value ∙ c.if-is_blocked.false)
 
 pub returns : goal.returns
 returns g c =
     let s = state_of g.B.Bench.meaning c.args.self.now in
-    let all : c.loop-c.c ≡ length s.shows = omega arith in
-    record { value = sym c.loop-c.invariant ∙ ap (λ n. first_below n (blocked s)) all }
+    let (r, from, found) = c.find.ensures.runs in
+    let counts : ItemsCountUp r 0 (length s.shows) = rw (← c.count.ensures.value) (subst (λ (x : Range ℕ). ItemsCountUp r x.start x.end) from (range_runs r r.seen)) in
+    record { value = find_below r (length s.shows) (blocked s) counts (λ a b f k. search (rules, tests)) (λ k b called. search (rules, tests)) _ found }

@@ -1,23 +1,16 @@
-use Rattle.std.proofs.Common.{◌≡◌, length, is_some, sym, ap, ◌∙◌, arith}
-use Rattle.machine.specs.Below.{first_below}
+use Rattle.std.proofs.Common.{ℕ, length, subst, rules}
+use borrow.Author.Tests.{tests}
+use Rattle.std.specs.Iterator.Runs.{ItemsCountUp}
+use Rattle.std.specs.declared.ops.Range.{Range}
+use Rattle.std.proofs.iter.runs.Sources.{range_runs}
 use Rattle.machine.specs.Machine.{spent_on}
 use Rattle.control.specs.States.{state_of}
-use Rattle.control.proofs.Firsts.{first_here, none_more}
+use Rattle.control.proofs.Firsts.{any_below}
 use Rattle.control.proofs.control.Control.some_spent.Goals as goal
-
-pub returns-then-spent : goal.returns-then-spent
-returns-then-spent g c =
-    let s = state_of g.B.Bench.meaning c.args.self.now in
-    let here = sym c.spent.ensures.value ∙ c.if-spent.true in
-    record { value = ap is_some (sym (first_here (length s.shows) c.loop-c.c (spent_on s) (omega arith) c.loop-c.invariant here)) }
-
-pub loop-c-preserved : goal.loop-c-preserved
-loop-c-preserved g c =
-    let s = state_of g.B.Bench.meaning c.args.self.now in
-    none_more c.loop-c.c (spent_on s) c.loop-c.invariant (sym c.spent.ensures.value ∙ c.if-spent.false)
 
 pub returns : goal.returns
 returns g c =
     let s = state_of g.B.Bench.meaning c.args.self.now in
-    let all : c.loop-c.c ≡ length s.shows = omega arith in
-    record { value = ap is_some (sym c.loop-c.invariant) ∙ ap (λ n. is_some (first_below n (spent_on s))) all }
+    let (r, from, found) = c.any.ensures.runs in
+    let counts : ItemsCountUp r 0 (length s.shows) = rw (← c.count.ensures.value) (subst (λ (x : Range ℕ). ItemsCountUp r x.start x.end) from (range_runs r r.seen)) in
+    record { value = any_below r (length s.shows) (spent_on s) counts (λ a b f k. search (rules, tests)) (λ k b called. search (rules, tests)) _ found }

@@ -2,7 +2,8 @@ use Rattle.std.proofs.Common.{◌≡◌, refl, ap, ◌∙◌, sym, rules, of_cal
 use Rattle.machine.specs.Machine.{count_for, none_yet, with_cut}
 use Rattle.machine.specs.declared.entry.Call.TheVariants.{Strike}
 use Rattle.control.proofs.Calling.{carried}
-use Rattle.control.proofs.Ending.{counted_by, refused_end, taken_end}
+use Rattle.control.proofs.Changed.{changed_by}
+use Rattle.control.proofs.Ending.{refused_end, taken_end}
 use Rattle.control.proofs.control.Control.strike.Goals as goal
 
 pub returns-in_err-row : goal.returns-in_err-row
@@ -16,9 +17,9 @@ pub returns-in-Some : goal.returns-in-Some
 returns-in-Some g c =
     let t = c.end.new.self.tallies in
     let r = c.in-Some.row in
-    let counted = counted_by t r with_cut c.count.new.self.table
-    (λ l. let (next, given, then) = c.count.ensures.there l in let is : next ≡ with_cut (get_or t.table r none_yet) = search (of_calls, rules) in (next, is, then))
-    c.count.ensures.beyond in
+    let counted = changed_by t none_yet r with_cut c.change.new.self.records
+    (λ l. let (next, given, then) = c.change.ensures.there l none_yet in let is : next ≡ with_cut (get_or t.records r none_yet) = search (of_calls, rules) in (next, is, then))
+    c.change.ensures.beyond in
     let (done, steps) = taken_end g.B.Bench.meaning g.B.Bench.fixed c.args.self.now c.end.new.self c.args.controller _ c.end.ensures.ends
-    (Strike c.args.controller) c.in_ok-row.field-0 (sym c.in_ok-row.was) refl with_cut refl c.count.new.self (counted ∙ ap (λ o. count_for t.table o with_cut) (sym c.in-Some.is)) in
+    (Strike c.args.controller) c.in_ok-row.field-0 (sym c.in_ok-row.was) refl with_cut refl c.change.new.self (counted ∙ ap (λ o. count_for t.records o with_cut) (sym c.in-Some.is)) in
     record { answer = done; steps = steps }
