@@ -1,6 +1,6 @@
 // Reads the table of sheets in `stdin` and prints the appendix or the refusal of each; `stdout` holds what should come.
 // A row is BYTES NAME: SHEET, where BYTES are lent for the appendix and / stands for the end of a line.
-// sheet_cases reads its rows alike: a crate for what both do would need the heap, and no library crate here uses it.
+// sheet_cases reads its rows alike. What of that needs the heap can be in no library crate here, and the rest is two `split_once`.
 #![tactic(auto)]
 
 use anyhow::Context;

@@ -1,8 +1,8 @@
 -- What each call comes to, case by case, and that it touches one controller.
 use Rattle.std.proofs.Common.{◌≡◌, ℕ, ◌<◌, ◌≤◌, cond, ltb, length, get_or, set, Some, None, Ok, Err, Option, Result, sym, refl, subst, ap₂, length-set, get_or-set_other}
-use Rattle.std.proofs.lemmas.Bool.{lt-ltb, le-ltb, le-leb, lt-leb}
+use Rattle.std.proofs.lemmas.Bool.{lt-ltb, le-ltb, le-leb}
 use Rattle.tasks.specs.declared.fault.BenchFault.{BenchFault}
-use Rattle.tasks.specs.declared.fault.BenchFault.TheVariants.{NoController, NoRow, Busy, Idle}
+use Rattle.tasks.specs.declared.fault.BenchFault.TheVariants.{NoController}
 use Rattle.benches.specs.Commands.{OthersKept, States, by_answer, start_answer, start_after, end_answer, end_after, state_answer}
 
 -- one controller changed leaves the others
@@ -26,20 +26,6 @@ start_none m c row h =
     let e = le-ltb c (length m) h in
     record { answer = simp e; after = simp e }
 
--- no such row
-pub start_row : (m : States) (c row : ℕ) → c < length m → 63 < row → Start m c row (Err (NoRow row)) m
-start_row m c row h w =
-    let e = lt-ltb c (length m) h in
-    let f = lt-leb row 63 w in
-    record { answer = simp (e, f); after = simp (e, f) }
-
--- a busy controller takes no row
-pub start_busy : (m : States) (c row v : ℕ) → c < length m → row ≤ 63 → get_or m c None ≡ Some v → Start m c row (Err (Busy c)) m
-start_busy m c row v h w s =
-    let e = lt-ltb c (length m) h in
-    let f = le-leb row 63 w in
-    record { answer = simp (e, f, s); after = simp (e, f, s) }
-
 -- an idle controller takes the row
 pub start_done : (m : States) (c row : ℕ) → c < length m → row ≤ 63 → get_or m c None ≡ None → Start m c row (Ok tt) (set m c (Some row))
 start_done m c row h w s =
@@ -61,12 +47,6 @@ pub end_none : (m : States) (c : ℕ) → length m ≤ c → End m c (Err (NoCon
 end_none m c h =
     let e = le-ltb c (length m) h in
     record { answer = simp e; after = simp e }
-
--- an idle controller has nothing to end
-pub end_idle : (m : States) (c : ℕ) → c < length m → get_or m c None ≡ None → End m c (Err (Idle c)) m
-end_idle m c h s =
-    let e = lt-ltb c (length m) h in
-    record { answer = simp (e, s); after = simp (e, s) }
 
 -- a busy controller becomes idle
 pub end_done : (m : States) (c v : ℕ) → c < length m → get_or m c None ≡ Some v → End m c (Ok tt) (set m c None)

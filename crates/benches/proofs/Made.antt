@@ -1,20 +1,11 @@
--- What a command makes of a controller's byte, and what it then answers and leaves.
-use Rattle.std.proofs.Common.{◌≡◌, ℕ, zero, suc, ◌+◌, ◌<◌, ◌≤◌, cond, List, length, get_or, ◌==◌, nat_le, None, Ok, Err, Result, ◌⊎◌, inl, inr, subst, ◌∙◌}
-use Rattle.std.proofs.Math.Dec.{eqb-suc-zero}
-use Rattle.std.proofs.lemmas.Bool.{cases_lt, le-leb, lt-leb}
+-- What a command answers and leaves, by what it made of a controller's byte.
+use Rattle.std.proofs.Common.{◌≡◌, ℕ, ◌+◌, ◌<◌, ◌≤◌, List, length, get_or, set, None, Ok, Err, Result, sym, subst, ap, ◌∙◌}
+use Rattle.std.proofs.lemmas.Bool.{cond-true, lt-ltb}
 use Rattle.tasks.specs.declared.fault.BenchFault.{BenchFault}
-use Rattle.tasks.specs.declared.fault.BenchFault.TheVariants.{NoController, NoRow, Busy, Idle}
-use Rattle.benches.specs.Commands.{States, by_answer, start_answer, end_answer}
-use Rattle.benches.specs.Registers.{Commanded, shown_by, decoded, start_bytes, end_bytes}
-use Rattle.benches.proofs.Commands.{start_none, start_row, start_busy, start_done, end_none, end_idle, end_done}
-
--- a start makes the row's byte of an idle controller's
-abbrev pub start_made : ℕ → ℕ → ℕ → Result ℕ BenchFault
-start_made c row byte = cond (nat_le row 63) (cond (byte == 0) (Ok (row + 1)) (Err (Busy c))) (Err (NoRow row))
-
--- an end makes 0 of a busy controller's byte
-abbrev pub end_made : ℕ → ℕ → Result ℕ BenchFault
-end_made c byte = cond (byte == 0) (Err (Idle c)) (Ok 0)
+use Rattle.tasks.specs.declared.fault.BenchFault.TheVariants.{NoController}
+use Rattle.benches.specs.Commands.{by_answer, end_answer, end_on, start_answer, start_on}
+use Rattle.benches.specs.Registers.{Commanded, decoded, end_bytes, made, shown_by, start_bytes}
+use Rattle.benches.proofs.Commands.{start_none, end_none}
 
 -- what a command answered and left is what the answer says
 settled
@@ -25,44 +16,33 @@ settled
 settled result a b after changed kept e h = subst (λ x. (result ≡ x) × (after ≡ by_answer x changed kept)) e h
 
 module _ (bytes : List ℕ) (c : ℕ) (result : Result (Unit {0}) BenchFault) (after : List ℕ) where
-  -- a command that made this of the byte
-  made_as : (made known : Result ℕ BenchFault) → made ≡ known → Commanded bytes c made result after → Commanded bytes c known result after
-  made_as made known e h = subst (λ x. Commanded bytes c x result after) e h
+  -- a byte made where the answer takes the command
+  by_made : (a : Result (Unit {0}) BenchFault) (byte : ℕ) → Commanded bytes c (made a byte) result after → (result ≡ a) × (after ≡ by_answer a (set bytes (c + 1) byte) bytes)
+  by_made (Ok _) byte h = h
+  by_made (Err _) byte h = h
 
-  -- a start at a controller that there is
+  -- a start and an end at a controller that there is
   pub start_commanded
-      : (row byte : ℕ) (made : Result ℕ BenchFault)
+      : (row byte : ℕ)
       → c < length (shown_by bytes)
       → get_or (shown_by bytes) c None ≡ decoded byte
-      → made ≡ start_made c row byte
-      → Commanded bytes c made result after
+      → Commanded bytes c (made (start_on (decoded byte) c row) (row + 1)) result after
       → (result ≡ start_answer (shown_by bytes) c row) × (after ≡ start_bytes bytes c row)
-  start_commanded row byte made l shows is commanded = go byte shows is (cases_lt 63 row)
-    where
-      m : States
-      m = shown_by bytes
+  start_commanded row byte l shows commanded =
+      settled result _ _ after _ _
+      (ap (λ o. start_on o c row) (sym shows) ∙ sym (cond-true _ _ _ (lt-ltb c (length (shown_by bytes)) l)))
+      (by_made (start_on (decoded byte) c row) (row + 1) commanded)
 
-      go : (byte : ℕ) → get_or m c None ≡ decoded byte → made ≡ start_made c row byte → (63 < row) ⊎ (row ≤ 63) → (result ≡ start_answer m c row) × (after ≡ start_bytes bytes c row)
-      go byte shows is (inl w) =
-          let e = lt-leb row 63 w in
-          settled result _ _ after _ _ (start_row m c row l w).answer (made_as made (Err (NoRow row)) (is ∙ simp e) commanded)
-      go zero shows is (inr w) =
-          let e = le-leb row 63 w in
-          settled result _ _ after _ _ (start_done m c row l w shows).answer (made_as made (Ok (row + 1)) (is ∙ simp e) commanded)
-      go (suc held) shows is (inr w) =
-          let e = le-leb row 63 w in
-          settled result _ _ after _ _ (start_busy m c row held l w shows).answer (made_as made (Err (Busy c)) (is ∙ simp (e, eqb-suc-zero)) commanded)
-
-  -- an end at a controller that there is
   pub end_commanded
-      : (byte : ℕ) (made : Result ℕ BenchFault)
+      : (byte : ℕ)
       → c < length (shown_by bytes)
       → get_or (shown_by bytes) c None ≡ decoded byte
-      → made ≡ end_made c byte
-      → Commanded bytes c made result after
+      → Commanded bytes c (made (end_on (decoded byte) c) 0) result after
       → (result ≡ end_answer (shown_by bytes) c) × (after ≡ end_bytes bytes c)
-  end_commanded zero made l shows is commanded = settled result _ _ after _ _ (end_idle (shown_by bytes) c l shows).answer (made_as made (Err (Idle c)) is commanded)
-  end_commanded (suc row) made l shows is commanded = settled result _ _ after _ _ (end_done (shown_by bytes) c row l shows).answer (made_as made (Ok 0) (is ∙ simp eqb-suc-zero) commanded)
+  end_commanded byte l shows commanded =
+      settled result _ _ after _ _
+      (ap (λ o. end_on o c) (sym shows) ∙ sym (cond-true _ _ _ (lt-ltb c (length (shown_by bytes)) l)))
+      (by_made (end_on (decoded byte) c) 0 commanded)
 
   -- a start and an end at a controller that there is not
   pub start_refused

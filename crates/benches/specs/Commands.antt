@@ -17,18 +17,25 @@ abbrev pub by_answer : {X : Type 0} → Result (Unit {0}) BenchFault → X → X
 by_answer (Ok _) taken refused = taken
 by_answer (Err _) taken refused = refused
 
--- The answer to the start of a row: there must be such a controller and such a row, and the controller must be idle.
+-- The answer to the start of a row on a controller that does this: there must be such a row, and the controller must be idle.
+abbrev pub start_on : Option ℕ → ℕ → ℕ → Result (Unit {0}) BenchFault
+start_on held c row = cond (nat_le row 63) (by_state held (Ok tt) (Err (Busy c))) (Err (NoRow row))
+
+-- The answer to the start of a row: there must be such a controller too.
 abbrev pub start_answer : States → ℕ → ℕ → Result (Unit {0}) BenchFault
-start_answer states c row =
-    cond (nat_lt c (length states)) (cond (nat_le row 63) (by_state (slice_index_or states c None) (Ok tt) (Err (Busy c))) (Err (NoRow row))) (Err (NoController c))
+start_answer states c row = cond (nat_lt c (length states)) (start_on (slice_index_or states c None) c row) (Err (NoController c))
 
 -- What the controllers do after the start of a row.
 abbrev pub start_after : States → ℕ → ℕ → States
 start_after states c row = by_answer (start_answer states c row) (slice_set states c (Some row)) states
 
--- The answer to an end: there must be such a controller, and it must be busy.
+-- The answer to an end on a controller that does this: it must be busy.
+abbrev pub end_on : Option ℕ → ℕ → Result (Unit {0}) BenchFault
+end_on held c = by_state held (Err (Idle c)) (Ok tt)
+
+-- The answer to an end: there must be such a controller too.
 abbrev pub end_answer : States → ℕ → Result (Unit {0}) BenchFault
-end_answer states c = cond (nat_lt c (length states)) (by_state (slice_index_or states c None) (Err (Idle c)) (Ok tt)) (Err (NoController c))
+end_answer states c = cond (nat_lt c (length states)) (end_on (slice_index_or states c None) c) (Err (NoController c))
 
 -- What the controllers do after an end.
 abbrev pub end_after : States → ℕ → States

@@ -22,6 +22,11 @@ start_bytes bytes c row = by_answer (start_answer (shown_by bytes) c row) (slice
 abbrev pub end_bytes : List ℕ → ℕ → List ℕ
 end_bytes bytes c = by_answer (end_answer (shown_by bytes) c) (slice_set bytes (c + 1) 0) bytes
 
+-- What a command with this answer makes of the controller's byte: this byte, where it is taken.
+abbrev pub made : Result (Unit {0}) BenchFault → ℕ → Result ℕ BenchFault
+made (Ok _) byte = Ok byte
+made (Err fault) byte = Err fault
+
 -- What a command answers and what bytes it leaves, by what it made of the controller's byte.
 abbrev pub Commanded : List ℕ → ℕ → Result ℕ BenchFault → Result (Unit {0}) BenchFault → List ℕ → Type 0
 Commanded before c (Ok byte) result after = (result ≡ Ok tt) × (after ≡ slice_set before (c + 1) byte)

@@ -1,10 +1,33 @@
 ghost use Rattle.std.specs.Prelude.{◌≡◌, ◌≤◌, length};
-ghost use Rattle.benches.specs.Commands.{OthersKept, States, end_after, end_answer, start_after, start_answer, state_answer};
+ghost use Rattle.benches.specs.Commands.{OthersKept, States, end_after, end_answer, end_on, start_after, start_answer, start_on, state_answer};
 
 use tasks::BenchFault;
 
 // A bench takes rows 0 to 63.
-pub(crate) const HIGHEST_ROW: u8 = 63;
+const HIGHEST_ROW: u8 = 63;
+
+// Whether the row may start on a controller that is busy with this row, or idle.
+pub(crate) fn may_start(held: Option<u8>, controller: u8, row: u8) -> Result<(), BenchFault>
+    ensures value { result ≡ start_on held controller row }
+{
+    if row > HIGHEST_ROW {
+        return Err(BenchFault::NoRow { row });
+    }
+    if held.is_some() {
+        return Err(BenchFault::Busy { controller });
+    }
+    Ok(())
+}
+
+// Whether a controller that is busy with this row, or idle, may be told to end.
+pub(crate) fn may_end(held: Option<u8>, controller: u8) -> Result<(), BenchFault>
+    ensures value { result ≡ end_on held controller }
+{
+    if held.is_none() {
+        return Err(BenchFault::Idle { controller });
+    }
+    Ok(())
+}
 
 // At most eight controllers, numbered from 0.
 pub trait Bench {

@@ -2,7 +2,7 @@ ghost use Rattle.benches.specs.Slates.{all_idle, few_held, held_by};
 ghost use Rattle.tasks.specs.Counts.{clamped};
 ghost use Rattle.std.specs.Prelude.{◌≡◌};
 
-use crate::bench::{Bench, HIGHEST_ROW};
+use crate::bench::{Bench, may_end, may_start};
 use crate::slate::Slate;
 use tasks::BenchFault;
 
@@ -32,21 +32,13 @@ impl Bench for Slate {
     }
 
     fn start(&mut self, controller: u8, row: u8) -> Result<(), BenchFault> {
-        let held = self.state(controller)?;
-        if row > HIGHEST_ROW {
-            return Err(BenchFault::NoRow { row });
-        }
-        if held.is_some() {
-            return Err(BenchFault::Busy { controller });
-        }
+        may_start(self.state(controller)?, controller, row)?;
         self.table[usize::from(controller)] = Some(row);
         Ok(())
     }
 
     fn end(&mut self, controller: u8) -> Result<(), BenchFault> {
-        if self.state(controller)?.is_none() {
-            return Err(BenchFault::Idle { controller });
-        }
+        may_end(self.state(controller)?, controller)?;
         self.table[usize::from(controller)] = None;
         Ok(())
     }

@@ -1,5 +1,5 @@
-// What a tick decided, carried out. The control and the list of events stay two arguments: a struct of both would borrow the
-// control for as long, and its clauses would say the same of both.
+// What a tick decided, carried out. The control and the list of events stay two arguments: a struct of both would be made for
+// one call, and each clause would name the same two parts of it.
 ghost use Rattle.std.specs.Prelude.{◌≡◌, ℕ, ◌+◌, ◌*◌, ◌<◌, ◌≤◌, [], ◌∷◌, length, Some, None, slice_index_or};
 ghost use Rattle.records.specs.Lists.{lent};
 ghost use Rattle.machine.specs.Below.{first_below};

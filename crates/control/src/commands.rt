@@ -1,4 +1,5 @@
-// What a control is told to do.
+// What a control is told to do. Each command says by `Steps` what it leaves: a fact of a control before and after, which no
+// invariant can take.
 ghost use Rattle.std.specs.Prelude.{◌≡◌, cond, length, Ok};
 ghost use Rattle.records.specs.Lists.{lent};
 ghost use Rattle.machine.specs.Machine.{end_answer, load_answer, return_answer, tick_answer, unloaded, when_loaded};
@@ -7,10 +8,10 @@ ghost use Rattle.control.specs.Calls.{Ends, EventsAfter, Loads, Steps, counted};
 ghost use Rattle.control.specs.States.{state_of};
 
 use crate::control::Control;
-use crate::jobs::{ControllerRecord, Jobs};
+use crate::jobs::Jobs;
 use crate::tallies::{Tallies, with_cut, with_report};
 use benches::{Bench, lowest_busy};
-use machine::{Counts, Event};
+use machine::Event;
 use planner::Plan;
 use records::Records;
 use tasks::{BenchFault, ControlFault, Mode};
@@ -30,8 +31,8 @@ impl<B: Bench> Control<B> {
             mode: Mode::Everyday,
             opening: 0,
             next: 0,
-            jobs: Jobs::filled(ControllerRecord::default()),
-            tallies: Tallies::filled(Counts::default()),
+            jobs: Jobs::new(),
+            tallies: Tallies::new(),
         }
     }
 
@@ -45,7 +46,8 @@ impl<B: Bench> Control<B> {
         Ok(())
     }
 
-    // Keeps the plan and begins at instant 0, in the everyday mode.
+    // Keeps the plan and begins at instant 0, in the everyday mode. The five fields that `new` sets too are no struct of their
+    // own, since the state that the promises speak of has each by itself.
     pub fn load(&mut self, plan: &Plan) -> Result<(), ControlFault>
         ensures answer { result ≡ load_answer (state_of B.Bench.meaning self.old) plan.now.controllers }
         ensures loads { Loads B.Bench.meaning self.old self.new plan.now }
@@ -67,8 +69,8 @@ impl<B: Bench> Control<B> {
         self.mode = Mode::Everyday;
         self.opening = 0;
         self.next = 0;
-        self.jobs = Jobs::filled(ControllerRecord::default());
-        self.tallies = Tallies::filled(Counts::default());
+        self.jobs = Jobs::new();
+        self.tallies = Tallies::new();
         Ok(())
     }
 

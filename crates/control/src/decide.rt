@@ -44,6 +44,7 @@ impl<B: Bench> Control<B> {
     fn budget(&self, row: u8) -> u16
         ensures value { result ≡ budget_at (slice_get (rows_of self.now.plan) row) (number self.now.mode) }
     {
+        // A match: tried with `map_or`, and the proof does not close.
         match self.plan.rows().get(usize::from(row)) {
             Some(row) => row.task.budget(self.mode),
             None => 0,
@@ -118,6 +119,7 @@ impl<B: Bench> Control<B> {
         ensures value { result ≡ blocked (state_of B.Bench.meaning self.now) controller }
     {
         let at = usize::from(controller);
+        // One test after the other: tried as one chain, and the proof does not close, since the two ways to false join.
         if turn.starts[at].is_none() {
             return false;
         }

@@ -1,5 +1,5 @@
 // When the controllers' present jobs started.
-ghost use Rattle.std.specs.Prelude.{◌≡◌, slice_index, slice_set};
+ghost use Rattle.std.specs.Prelude.{◌≡◌, replicate, slice_index, slice_set};
 ghost use Rattle.control.specs.Tables.{since_of};
 
 use crate::table::Table;
@@ -14,6 +14,12 @@ pub(crate) struct ControllerRecord {
 pub(crate) type Jobs = Table<ControllerRecord, 8>;
 
 impl Jobs {
+    pub(crate) fn new() -> Jobs
+        ensures all { since_of result ≡ replicate 8 0 }
+    {
+        Table::filled(ControllerRecord::default())
+    }
+
     // The instant at which the controller's present job started, and 0 where there is no such controller.
     pub(crate) fn since(&self, controller: u8) -> u64
         ensures value { result ≡ slice_index (since_of self.now) controller }

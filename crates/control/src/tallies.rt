@@ -1,12 +1,20 @@
-// How a row's counts change.
-ghost use Rattle.std.specs.Prelude.{◌≡◌};
-ghost use Rattle.machine.specs.Machine.{with_cut, with_report, with_start};
+// How a row's counts change: three functions, since each names another field.
+ghost use Rattle.std.specs.Prelude.{◌≡◌, replicate};
+ghost use Rattle.machine.specs.Machine.{none_yet, with_cut, with_report, with_start};
 
 use crate::table::Table;
 use machine::Counts;
 
 // By row.
 pub(crate) type Tallies = Table<Counts, 64>;
+
+impl Tallies {
+    pub(crate) fn new() -> Tallies
+        ensures all { result.records ≡ replicate 64 none_yet }
+    {
+        Table::filled(Counts::default())
+    }
+}
 
 // A job of the row started.
 pub(crate) fn with_start(counts: Counts) -> Counts

@@ -30,6 +30,7 @@ pub fn byte(high: u8, low: u8) -> u8
     16 * digit(high).unwrap_or(0) + digit(low).unwrap_or(0)
 }
 
+// By hand: the kit's `hex` writes capitals only on the heap.
 fn print_digit(v: u8) -> u8
     requires { v < 16 }
     ensures value { result ≡ printed v }

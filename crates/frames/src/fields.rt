@@ -28,6 +28,7 @@ pub fn opening_fields(digits: &[u8; 4]) -> (u8, u8)
 pub fn task_fields(digits: &[u8; 20]) -> Task
     ensures value { result ≡ task_of digits.now }
 {
+    // A second buffer: one function for both, over the length, was tried, and the host's planning is a seventh slower with it.
     let mut bytes = [0u8; 10];
     decode(digits, &mut bytes);
     let [id, level, t, u, d, e, v, w, c, x] = bytes;

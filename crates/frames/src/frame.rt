@@ -92,6 +92,7 @@ impl<'a> Line<'a> {
             Ok(Kind::Opening) => Ok(Frame::Opening(self.fields()?)),
             Ok(Kind::Row) => Ok(Frame::Row(self.fields()?)),
             Ok(Kind::Close) if fields.is_empty() => Ok(Frame::Close),
+            // Two arms: tried with one pattern for both, and the proof does not close.
             Ok(Kind::Close) => Err(no_frame),
             Err(_) => Err(no_frame),
         }

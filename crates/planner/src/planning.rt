@@ -37,7 +37,7 @@ fn place_all<P: Policy>(tasks: &[Task], policy: &mut P, table: &mut [Row]) -> Re
 }
 
 // Plans the tasks for `m` controllers. An accepted plan replaces the old one whole; a refusal leaves it as it was, and the
-// policy told of the rows placed before it.
+// policy told of the rows placed before it: therefore the plan is a place of the caller's, and no result.
 pub fn plan<P: Policy>(
     m: u8,
     tasks: &[Task],

@@ -14,7 +14,7 @@ pub fn refusal_line(refusal: &Refusal) -> [u8; 11]
     numbered_line(refusal.number(), refusal.layer_number(), refusal.place)
 }
 
-// The line of a refusal by its numbers, which may be any bytes.
+// The line of a refusal by its numbers. They are bytes, since its two promises hold over any, also those that no reason has.
 pub fn numbered_line(number: u8, layer: u8, place: usize) -> [u8; 11]
     ensures value { result ≡ refusal_text number layer place }
     ensures reads_back { ReadsBack number layer place result }

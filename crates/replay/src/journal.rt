@@ -23,7 +23,7 @@ impl Journal {
         let rows = (0..).zip(job.tasks).map(|(row, _task)| Call::Row { row });
         let controllers = (0..job.controllers).map(|controller| Call::Controller { controller });
         let calls: Vec<Call> = script.chain(rows).chain(controllers).collect(heap)?;
-        // What stands in a place that a run is to write.
+        // What stands in a place that a run is to write. By hand: an entry has no default, since no call is one.
         let unsent = Entry {
             call: Call::Status,
             answer: Ok(Reply::Done),

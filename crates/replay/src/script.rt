@@ -57,10 +57,10 @@ impl fmt::Display for Line {
 
 // The call that a numbered line spells. A line that is no call is an error that names it.
 fn call(number: usize, line: &str) -> anyhow::Result<Call> {
-    match line.parse() {
-        Ok(Line(call)) => Ok(call),
-        Err(NoCall) => Err(anyhow!("line {number} is no call: {line}")),
-    }
+    let Line(call) = line
+        .parse()
+        .map_err(|_| anyhow!("line {number} is no call: {line}"))?;
+    Ok(call)
 }
 
 // The calls of standard input.

@@ -24,8 +24,8 @@ pub fn run<B: Bench>(
 {
     control.load(plan)?;
     let count = calls.len().min(journal.len());
-    // By index: tried with `journal.iter_mut().zip(calls)`, and the proof does not close, since of what is written through it
-    // nothing is known.
+    // By index: tried with `journal.iter_mut().zip(calls)`, of which nothing is known that is written through it, and with
+    // `calls[..count].iter().enumerate()`. Neither proof closes.
     for i in 0..count {
         let call = calls[i];
         journal[i] = Entry {

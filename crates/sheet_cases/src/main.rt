@@ -1,6 +1,6 @@
 // Reads the table of sheets in `stdin` and prints what comes of each; `stdout` holds what should.
 // A row is PLACES NAME: SHEET, where / stands for the end of a line and ~ for a carriage return.
-// appendix_cases reads its rows alike: a crate for what both do would need the heap, and no library crate here uses it.
+// appendix_cases reads its rows alike. What of that needs the heap can be in no library crate here, and the rest is two `split_once`.
 #![tactic(auto)]
 
 use anyhow::Context;

@@ -5,7 +5,8 @@ ghost use Rattle.tasks.specs.Tasks.{InRange, belongs, budget, critical_in_range,
 use crate::mode::{Mode, PerMode};
 
 // A task as it was handed in: a plain record that may hold any numbers.
-// The level is 0 for an everyday task and 1 for a critical one, and a number, since a record may hold any; times count in ticks.
+// The level is 0 for an everyday task and 1 for a critical one. It is a number, since a sheet may have any byte there, which the
+// reader and planning refuse. Times count in ticks.
 #[derive(Clone, Copy, Default)]
 pub struct Task {
     pub id: u8,

@@ -1,11 +1,10 @@
-use Rattle.std.proofs.Common.{◌≡◌, true, false, is_some, sym, refl, ap, ◌∙◌, map, replicate, rules}
+use Rattle.std.proofs.Common.{◌≡◌, true, false, is_some, sym, refl, ap, ◌∙◌}
 use Rattle.tasks.specs.declared.fault.ControlFault.TheVariants.{Busy, Counts, Loaded}
 use Rattle.planner.specs.Plans.{rows_of}
-use Rattle.machine.specs.Machine.{none_yet, some_busy}
+use Rattle.machine.specs.Machine.{some_busy}
 use Rattle.control.specs.States.{state_of}
 use Rattle.control.proofs.BusyOnes.{lowest_is}
 use Rattle.control.proofs.Loads.{freshened, load_again, load_by, load_other, taken, unloaded}
-use Rattle.control.specs.declared.jobs.ControllerRecord.{ControllerRecord}
 use Rattle.control.proofs.control.Control.load.Goals as goal
 
 pub returns-then-controllers-ne0 : goal.returns-then-controllers-ne0
@@ -38,8 +37,5 @@ returns g c =
     let idle : some_busy s ≡ false = ap is_some (sym (lowest_is s.shows)) ∙ ap is_some (sym c.lowest_busy.ensures.value) ∙ sym c.is_some.ensures ∙ c.if-is_some.false in
     let e = load_by s c.args.plan.now.controllers (sym c.controllers.ensures.value ∙ c.if-controllers-ne0.false)
     (λ z. c.if-m-eq0.false (c.controllers-m.ensures.value ∙ z)) (sym c.controllers-m.ensures.value ∙ c.if-m-count.false ∙ c.count.ensures.value) false idle in
-    let at0 : c.default.result.since ≡ 0 = search rules in
-    let none : c.default-2.result ≡ none_yet = search rules in
-    let begun = freshened c.args.plan.now.controllers (rows_of c.args.plan.now) s.shows
-    (ap (map (λ (r : ControllerRecord). r.since)) c.filled-self.ensures.all ∙ ap (replicate 8) at0) (c.filled-self-2.ensures.all ∙ ap (replicate 64) none) in
+    let begun = freshened c.args.plan.now.controllers (rows_of c.args.plan.now) s.shows c.new-self.ensures.all c.new-self-2.ensures.all in
     record { answer = sym e; loads = taken g.B.Bench.meaning a _ c.args.plan.now e begun refl refl }
