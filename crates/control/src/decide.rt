@@ -24,12 +24,19 @@ fn is_due(row: &Row, controller: u8, mode: Mode, elapsed: u64) -> bool
         && elapsed % u64::from(row.task.period) == u64::from(row.start(mode))
 }
 
-// What the rule gives for each controller.
-fn by_controller<F: Fn(u8) -> Option<u8>>(rule: F) -> [Option<u8>; 8]
+// What the rule gives for each of so many controllers. It is not asked for others: on a small bench that is most of a tick.
+fn by_controller<F: Fn(u8) -> Option<u8>>(count: u8, rule: F) -> [Option<u8>; 8]
     requires callable { F.IsAlwaysCallable rule }
-    ensures each { (c : ℕ) → c < 8 → F.post rule c (slice_index_or result c None) }
+    ensures each { (c : ℕ) → c < 8 → c < count → F.post rule c (slice_index_or result c None) }
 {
-    std::array::from_fn(|c| rule(c as u8))
+    std::array::from_fn(|c| {
+        let controller = c as u8;
+        if controller < count {
+            rule(controller)
+        } else {
+            None
+        }
+    })
 }
 
 impl<B: Bench> Control<B> {
@@ -105,10 +112,11 @@ impl<B: Bench> Control<B> {
             (self.mode, self.opening)
         };
         let elapsed = self.next.saturating_sub(opening);
+        let count = self.bench.count();
         Turn {
             switches,
-            cuts: by_controller(|c| self.cut_row(switches, c)),
-            starts: by_controller(|c| self.due(c, mode, elapsed)),
+            cuts: by_controller(count, |c| self.cut_row(switches, c)),
+            starts: by_controller(count, |c| self.due(c, mode, elapsed)),
         }
     }
 

@@ -49,7 +49,7 @@ module _ {P : Type 0} (means : Means P) (p : P) where
   abbrev pub As : List Row → Task → Row → Type 0
   As placed t r = PlacedAs (means.order (told_of means p placed) t.level) placed t r
 
-  placed_more
+  pub placed_more
       : (tasks : List Task) (rows : List Row) (task : Task) (row : Row)
       → Placed means p tasks rows
       → As rows task row

@@ -22,11 +22,11 @@ returns g c =
         switching = is;
         cuts = λ k l.
             let below : k < 8 = omega (arith, g.B.Bench.few control.bench) in
-            let e = c.by_controller.ensures.each k below in
+            let e = c.by_controller.ensures.each k below (omega (arith, l, c.count-count.ensures.value)) in
             search (of_calls, rules);
         starts = λ k l.
             let below : k < 8 = omega (arith, g.B.Bench.few control.bench) in
-            let e = c.by_controller-2.ensures.each k below in
+            let e = c.by_controller-2.ensures.each k below (omega (arith, l, c.count-count.ensures.value)) in
             let due : get_or c.by_controller-2.result k None ≡ due_in s.rows (number force.0) c.saturating_sub-elapsed.result k = search (of_calls, rules) in
             due ∙ ap₂ (λ (m e : ℕ). due_in s.rows m e k) then.0 elapsed;
       };

@@ -1,0 +1,3 @@
+-- The worked examples, and what holds of them.
+pub mod Rows
+pub mod Trials
