@@ -1,5 +1,5 @@
 -- Lines as frames: the digits of a line, its bytes, and what its frame tells.
-use Rattle.std.specs.Prelude.{ℕ, ◌+◌, ◌%◌, cond, ◌&&◌, List, length, drop, Ok, Err, Result, ◌==◌, nat_lt}
+use Rattle.std.specs.Prelude.{◌≡◌, ℕ, ◌+◌, ◌%◌, cond, ◌&&◌, List, length, drop, Ok, Err, Result, ◌==◌, nat_lt}
 use Rattle.std.specs.List.{prefix_len}
 use Rattle.digits.specs.Digits.{is_digit, byte_at, word_at}
 use Rattle.tasks.specs.declared.fault.DigitFault.{DigitFault}
@@ -55,6 +55,13 @@ abbrev pub told_by : Frame → Told
 told_by (Opening fields) = opening (byte_at fields.now 0) (byte_at fields.now 1)
 told_by (Row fields) = row (task_of fields.now)
 told_by Close = close
+
+-- the frame holds these digits as its own part of the line; a close holds none
+abbrev pub Holds : List ℕ → Result Frame FrameFault → Type 0
+Holds digits (Ok (Opening own)) = own.now ≡ digits
+Holds digits (Ok (Row own)) = own.now ≡ digits
+Holds digits (Ok Close) = Unit {0}
+Holds digits (Err fault) = Unit {0}
 
 -- the same where a frame or a fault came
 abbrev pub shown : Result Frame FrameFault → Result Told FrameFault

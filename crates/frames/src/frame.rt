@@ -1,7 +1,7 @@
 ghost use Rattle.std.specs.Prelude.{◌≡◌, ◌*◌, ◌%◌, ◌≤◌, ◌≢◌, length, drop, slice_index, MatchResult, not};
 ghost use Rattle.std.specs.List.{position};
 ghost use Rattle.tasks.specs.declared.fault.FrameFault.TheVariants.{NoFrame};
-ghost use Rattle.frames.specs.Frames.{digits_checked, framed, frame_of, shown};
+ghost use Rattle.frames.specs.Frames.{Holds, digits_checked, framed, frame_of, shown};
 ghost use Rattle.digits.specs.Digits.{byte_at, is_digit};
 ghost use Rattle.frames.specs.Texts.{ReadsExactly};
 
@@ -36,6 +36,7 @@ impl<'a> Line<'a> {
     // The frame on the line: its digits are checked before its kind and its length.
     pub fn frame(self) -> Result<Frame<'a>, FrameFault>
         ensures value { shown result ≡ frame_of self.entry.number self.entry.digits.now }
+        ensures held { Holds (drop 2 self.entry.digits.now) result }
         ensures exactly { ReadsExactly self.entry.digits.now (shown result) }
     {
         self.check_digits()?;
@@ -68,6 +69,7 @@ impl<'a> Line<'a> {
     fn decoded(self) -> Result<Frame<'a>, FrameFault>
         requires { length self.digits.now % 2 ≡ 0 }
         ensures value { shown result ≡ framed self.entry.number (byte_at self.entry.digits.now 0) (drop 2 self.entry.digits.now) }
+        ensures held { Holds (drop 2 self.entry.digits.now) result }
     {
         let count = self.digits.len() / 2;
         if count > 11 {
@@ -83,6 +85,7 @@ impl<'a> Line<'a> {
     fn by_kind(self, bytes: &[u8]) -> Result<Frame<'a>, FrameFault>
         requires { 2 * length bytes.now ≡ length self.digits.now }
         ensures value { shown result ≡ framed self.entry.number (slice_index bytes.now 0) (drop 2 self.entry.digits.now) }
+        ensures held { Holds (drop 2 self.entry.digits.now) result }
     {
         let no_frame = FrameFault::NoFrame { line: self.number };
         let [kind, fields @ ..] = bytes else {

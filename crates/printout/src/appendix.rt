@@ -54,6 +54,7 @@ fn put_rows(rows: &[Row], out: &mut [u8])
 pub fn write_appendix(plan: &Plan, out: &mut [u8]) -> Result<usize, AppendixFault>
     ensures wrote { Wrote (appendix_text plan.now.controllers (rows_of plan.now)) out.old result out.new }
     ensures bound { IfOk result (λ n. n ≤ 970) }
+    ensures longest { APPENDIX_BYTES ≡ 7 + 15 * 64 + 3 }
     ensures telling { TextsTellQuotes }
 {
     let rows = plan.rows();

@@ -5,15 +5,12 @@ use Rattle.std.proofs.lemmas.Nat.Gcd.{le_from_IsGcd}
 use Rattle.std.specs.Int.{◌∣◌}
 use Rattle.tasks.specs.Tasks.{budget}
 use Rattle.tasks.specs.declared.task.Task.{Task}
-use Rattle.policies.specs.Arranged.{front_lawful}
 use Rattle.policies.specs.Meanings.{front_means}
 use Rattle.policies.specs.declared.front.Front.{Front}
 use Rattle.planner.specs.Placing.{Takes}
 use Rattle.planner.specs.Planning.{Placed, StuckAt}
-use Rattle.planner.specs.Searching.{EachInRange}
-use Rattle.planner.specs.Standing.{EachOn, Stands}
+use Rattle.planner.specs.Standing.{Stands}
 use Rattle.planner.specs.declared.row.Row.{Row}
-use Rattle.planner.proofs.Rows.{placed_apart, placed_each_on, placed_each_sound}
 use Rattle.machine.specs.Entries.{entry, written}
 use Rattle.machine.specs.declared.entry.Call.TheVariants.{Tick}
 use Rattle.machine.specs.declared.entry.Entry.{Entry}
@@ -150,10 +147,6 @@ sums_fit =
 
 -- ---- the plans that run
 
--- a front policy for so many controllers
-policy : (m : ℕ) → 1 ≤ m → m ≤ 8 → (p : Front) × (front_means.count p ≡ m)
-policy m l h = (record { count = record { value = m; ok = (l, h) } }, refl)
-
 abbrev pub overrun_rows : List Row
 overrun_rows = row (critical 10 10 10 (2 ∷ 4 ∷ [])) 0 (0 ∷ 0 ∷ []) ∷ alone (everyday 11 15 3) 2 ∷ row (critical 12 20 12 (3 ∷ 5 ∷ [])) 1 (0 ∷ 0 ∷ []) ∷ alone (everyday 13 30 4) 5 ∷ []
 
@@ -165,21 +158,14 @@ abbrev pub overrun_ticks : List Entry
 overrun_ticks =
     ticked (Start 0 0 ∷ Start 1 2 ∷ []) ∷ ticked [] ∷ ticked (Switch ∷ Cut 0 0 ∷ Cut 1 2 ∷ Start 0 0 ∷ Start 1 2 ∷ []) ∷ []
 
--- rows that were placed stand
-stands : (m : ℕ) → 1 ≤ m → m ≤ 8 → (rows : List Row) → length rows ≤ 64 → EachInRange (tasks_of rows) → Built m rows → Stands m rows
-stands m l h rows short range built =
-    let (p, count) = policy m l h in
-    let placed = built.placed p count in
-    record {
-      few = h;
-      short = short;
-      sound = placed_each_sound front_means p (tasks_of rows) rows range placed;
-      there = subst (λ n. EachOn n rows) count (placed_each_on front_means p front_lawful (tasks_of rows) rows placed);
-      apart = placed_apart front_means p (tasks_of rows) rows placed;
-    }
-
-pub no_tasks_stand : (m : ℕ) → 1 ≤ m → m ≤ 8 → Stands m []
-no_tasks_stand m l h = stands m l h [] (omega arith) (λ i task e. none_some task e) (none m)
+pub no_tasks_stand : (m : ℕ) → m ≤ 8 → Stands m []
+no_tasks_stand m h = record {
+  few = h;
+  short = omega arith;
+  sound = λ i row e. none_some row e;
+  there = λ i row e. none_some row e;
+  apart = λ clash. none_some clash.a clash.at_i;
+}
 
 -- ---- what the examples say, of what equals them
 

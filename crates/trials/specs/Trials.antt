@@ -1,5 +1,5 @@
 -- What holds of the worked examples, in the words of planning and of the control.
-use Rattle.std.specs.Prelude.{◌≡◌, ℕ, ◌+◌, ◌≤◌, List, [], ◌∷◌, ◌++◌, map, replicate, Ok}
+use Rattle.std.specs.Prelude.{◌≡◌, ℕ, ◌+◌, ◌≤◌, ◌↔◌, List, [], ◌∷◌, ◌++◌, map, replicate, Ok}
 use Rattle.std.specs.Bool.{MatchBool}
 use Rattle.std.specs.Int.{IsGcd}
 use Rattle.tasks.specs.Tasks.{budget}
@@ -73,6 +73,6 @@ pub record TrialsHold (t : Trials) : Type 0 where
   pub overrun : Fits 2 t.overrun.rows
       (critical 10 10 10 (2 ∷ 4 ∷ []) ∷ everyday 11 15 3 ∷ critical 12 20 12 (3 ∷ 5 ∷ []) ∷ everyday 13 30 4 ∷ [])
   pub overrun_runs : run (loaded 2 t.overrun.rows) (replicate 3 (Tick 5)) ≡ t.overrun.ticks
-  -- a plan with no tasks stands for each number of controllers, and ticks start nothing, to the end of time
-  pub no_tasks_stands : (m : ℕ) → 1 ≤ m → m ≤ t.no_tasks.controllers → Stands m []
-  pub no_tasks_runs : (n : ℕ) → n ≤ t.no_tasks.ticks → run (loaded 1 []) (replicate n (Tick 3)) ≡ replicate n idle_tick
+  -- a plan with no tasks stands for every number of controllers that there may be, and ticks start nothing, to the end of time
+  pub no_tasks_stands : (m : ℕ) → (m ≤ t.no_tasks.controllers) ↔ Stands m []
+  pub no_tasks_runs : (n : ℕ) → (n ≤ t.no_tasks.ticks) ↔ (run (loaded 1 []) (replicate n (Tick 3)) ≡ replicate n idle_tick)

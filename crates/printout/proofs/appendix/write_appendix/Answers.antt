@@ -15,6 +15,7 @@ returns-then-out-length c =
     record {
       wrote = subst F c.rows-rows.ensures.value (too_few m c.rows-rows.result.now before c.if-out-length.true);
       bound = tt;
+      longest = refl;
       telling = texts_tell_quotes;
     }
 
@@ -32,4 +33,4 @@ returns c =
     (same_len_mid 7 (length opened - 7) opened c.put_rows.new.out c.put_rows.auto.out ∙ c.put_line.auto.out) in
     let M : ℕ → Type 0 = λ m. Wrote (appendix_text m rows) before (Ok n) out in
     let F : List Row → Type 0 = λ rs. Wrote (appendix_text plan.controllers rs) before (Ok n) out in
-    record { wrote = subst F c.rows-rows.ensures.value (subst M c.controllers.ensures.value all); bound = omega (arith, ap length c.rows-rows.ensures.value, c.rows-rows.ensures.stands.short); telling = texts_tell_quotes }
+    record { wrote = subst F c.rows-rows.ensures.value (subst M c.controllers.ensures.value all); bound = omega (arith, ap length c.rows-rows.ensures.value, c.rows-rows.ensures.stands.short); longest = refl; telling = texts_tell_quotes }

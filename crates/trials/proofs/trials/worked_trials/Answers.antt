@@ -5,7 +5,7 @@ use Rattle.machine.specs.declared.entry.Call.TheVariants.{Tick}
 use Rattle.trials.specs.Rows.{everyday}
 use Rattle.trials.proofs.Held as held
 use Rattle.trials.proofs.Held.{fits, overrun_rows, stuck_on, three_rows}
-use Rattle.trials.proofs.Ticks.{quiet_run}
+use Rattle.trials.proofs.Ticks.{quiet_before, quiet_run}
 use Rattle.trials.proofs.trials.worked_trials.Goals as goal
 
 pub returns : goal.returns
@@ -24,7 +24,7 @@ returns c =
         both_modes = fits 1 _ _ (search rules) held.both_modes;
         overrun = fits 2 _ _ rows held.overrun;
         overrun_runs = ap (λ (xs : List Row). run (loaded 2 xs) (replicate 3 (Tick 5))) rows ∙ ticks;
-        no_tasks_stands = λ m l h. held.no_tasks_stand m l (omega (arith, h, c.idle.ensures.controllers));
-        no_tasks_runs = λ n l. quiet_run n 0 (omega (arith, l, c.idle.ensures.ticks));
+        no_tasks_stands = λ m. (λ h. held.no_tasks_stand m (omega (arith, h, c.idle.ensures.controllers)), λ s. omega (arith, s.few, c.idle.ensures.controllers));
+        no_tasks_runs = λ n. (λ l. quiet_run n 0 (omega (arith, l, c.idle.ensures.ticks)), λ e. omega (arith, quiet_before n 0 (omega arith) e, c.idle.ensures.ticks));
       };
     }

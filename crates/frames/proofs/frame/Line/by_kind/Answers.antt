@@ -6,4 +6,4 @@ use Rattle.frames.proofs.frame.Line.by_kind.Goals as goal
 pub returns-in-Err : goal.returns-in-Err
 returns-in-Err c =
     let none = c.in-Err.ensures in
-    record { value = sym (no_frame c.args.self.number (slice_index c.args.bytes.now 0) (drop 2 c.args.self.digits.now) (λ k _. none Opening k) (λ k _. none Row k) (λ k _. none Close k)) }
+    record { held = tt; value = sym (no_frame c.args.self.number (slice_index c.args.bytes.now 0) (drop 2 c.args.self.digits.now) (λ k _. none Opening k) (λ k _. none Row k) (λ k _. none Close k)) }

@@ -8,10 +8,10 @@ pub returns-then-count-gt11 : goal.returns-then-count-gt11
 returns-then-count-gt11 c =
     let ds = c.args.self.digits.now in
     let l = length-drop 2 ds in
-    record { value = sym (no_frame c.args.self.number (byte_at ds 0) (drop 2 ds) (λ k e. omega arith) (λ k e. omega arith) (λ k e. omega arith)) }
+    record { held = tt; value = sym (no_frame c.args.self.number (byte_at ds 0) (drop 2 ds) (λ k e. omega arith) (λ k e. omega arith) (λ k e. omega arith)) }
 
 pub returns : goal.returns
 returns c =
     let ds = c.args.self.digits.now in
     let e = first_byte c.decode.new.bytes ds (omega arith) c.decode.ensures.each in
-    record { value = c.by_kind.ensures.value ∙ ap (λ k. framed c.args.self.number k (drop 2 ds)) e }
+    record { held = c.by_kind.ensures.held; value = c.by_kind.ensures.value ∙ ap (λ k. framed c.args.self.number k (drop 2 ds)) e }
