@@ -17,11 +17,6 @@ enum { PLACES = 15, OVER = 16, BUSY = 17 };
 
 static const uint64_t END_OF_TIME = UINT64_C(1) << 40;
 
-/* For how many controllers a tick decides. With -DDECIDED=CONTROLLERS it is eight whatever the count, as in crates/control. */
-#ifndef DECIDED
-#define DECIDED (k->controllers)
-#endif
-
 struct event { uint8_t kind, controller, row; };
 struct row { uint8_t id, level, controller; uint16_t period, deadline, budget[2], start[2]; };
 struct counts { uint64_t starts, reports, cuts; };
@@ -80,7 +75,7 @@ static int tick(struct control *k, struct event *events, int places) {
     bool switches = k->mode == EVERYDAY && some_spent(k);
     enum mode mode = switches ? CRITICAL : k->mode;
     uint64_t elapsed = switches ? 0 : k->next - k->opening;
-    for (uint8_t c = 0; c < DECIDED; c++) {
+    for (uint8_t c = 0; c < k->controllers; c++) {
         cuts[c] = switches || spent(k, c) ? k->held[c] : NONE;
         starts[c] = due(k, c, mode, elapsed);
         if (starts[c] != NONE && cuts[c] == NONE && k->held[c] != NONE) return -BUSY;
