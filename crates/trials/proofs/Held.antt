@@ -11,6 +11,7 @@ use Rattle.planner.specs.Placing.{Takes}
 use Rattle.planner.specs.Planning.{Placed, StuckAt}
 use Rattle.planner.specs.Standing.{Stands}
 use Rattle.planner.specs.declared.row.Row.{Row}
+use Rattle.planner.proofs.Unique.{one_way}
 use Rattle.machine.specs.Entries.{entry, written}
 use Rattle.machine.specs.declared.entry.Call.TheVariants.{Tick}
 use Rattle.machine.specs.declared.entry.Entry.{Entry}
@@ -19,7 +20,7 @@ use Rattle.machine.specs.declared.event.Event.{Event}
 use Rattle.machine.specs.declared.event.Event.TheVariants.{Cut, Start, Switch}
 use Rattle.machine.proofs.Basics.{none_some}
 use Rattle.trials.specs.Rows.{alone, critical, due_by, everyday, row}
-use Rattle.trials.specs.Trials.{EachPairFits, Fits, PairFits, StuckOn, tasks_of}
+use Rattle.trials.specs.Trials.{EachPairFits, Fits, PairFits, StuckOn, sample_tasks, tasks_of}
 use Rattle.trials.specs.declared.trial.Stuck.{Stuck}
 use Rattle.trials.proofs.ByInstants.{takes, takes_false}
 use Rattle.trials.proofs.Built.{Built, none, then_critical, then_everyday}
@@ -166,6 +167,12 @@ no_tasks_stand m h = record {
   there = λ i row e. none_some row e;
   apart = λ clash. none_some clash.a clash.at_i;
 }
+
+-- planning places the sample's tasks in no other way
+pub sample_rows : (rows : List Row) → Fits 2 rows sample_tasks → rows ≡ overrun_rows
+sample_rows rows fit =
+    let p : Front = record { count = record { value = 2; ok = (omega arith, omega arith) } } in
+    one_way front_means p sample_tasks rows overrun_rows (fit.1 p refl) (overrun.placed p refl)
 
 -- ---- what the examples say, of what equals them
 

@@ -50,6 +50,10 @@ EachPairFits (a ∷ tasks) = FitsWithEach a tasks × EachPairFits tasks
 abbrev pub four_tasks : List Task
 four_tasks = everyday 1 4 1 ∷ everyday 2 6 1 ∷ everyday 3 12 3 ∷ everyday 4 12 3 ∷ []
 
+-- the tasks of the sample sheet
+abbrev pub sample_tasks : List Task
+sample_tasks = critical 10 10 10 (2 ∷ 4 ∷ []) ∷ everyday 11 15 3 ∷ critical 12 20 12 (3 ∷ 5 ∷ []) ∷ everyday 13 30 4 ∷ []
+
 -- a tick with places for 3 events that does nothing
 abbrev pub idle_tick : Entry
 idle_tick = entry (Tick 3) (Ok (Ticked (written [])))
@@ -70,9 +74,9 @@ pub record TrialsHold (t : Trials) : Type 0 where
   -- each critical task has a start in each mode; in the critical mode the everyday task is not in the way
   pub both_modes : Fits 1 t.both_modes (everyday 1 10 3 ∷ critical 2 20 20 (2 ∷ 4 ∷ []) ∷ critical 3 30 30 (5 ∷ 6 ∷ []) ∷ [])
   -- the sample sheet's tasks on two controllers, and three ticks with no report
-  pub overrun : Fits 2 t.overrun.rows
-      (critical 10 10 10 (2 ∷ 4 ∷ []) ∷ everyday 11 15 3 ∷ critical 12 20 12 (3 ∷ 5 ∷ []) ∷ everyday 13 30 4 ∷ [])
-  pub overrun_runs : run (loaded 2 t.overrun.rows) (replicate 3 (Tick 5)) ≡ t.overrun.ticks
+  pub overrun : Fits 2 t.overrun.rows sample_tasks
+  -- the rows that planning makes of these tasks run so
+  pub overrun_runs : (rows : List Row) → Fits 2 rows sample_tasks → run (loaded 2 rows) (replicate 3 (Tick 5)) ≡ t.overrun.ticks
   -- a plan with no tasks stands for every number of controllers that there may be, and ticks start nothing, to the end of time
   pub no_tasks_stands : (m : ℕ) → (m ≤ t.no_tasks.controllers) ↔ Stands m []
   pub no_tasks_runs : (n : ℕ) → (n ≤ t.no_tasks.ticks) ↔ (run (loaded 1 []) (replicate n (Tick 3)) ≡ replicate n idle_tick)

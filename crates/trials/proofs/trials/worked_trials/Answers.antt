@@ -10,8 +10,6 @@ use Rattle.trials.proofs.trials.worked_trials.Goals as goal
 
 pub returns : goal.returns
 returns c =
-    let rows : c.row-3.result ∷ c.row-4.result ∷ c.row-5.result ∷ c.row-6.result ∷ [] ≡ overrun_rows = search rules in
-    let ticks : held.overrun_ticks ≡ c.tick.result ∷ c.tick-2.result ∷ c.tick-3.result ∷ [] = search rules in
     record {
       hold = record {
         coprime_periods = fits 1 _ _ (search rules) held.coprime_periods;
@@ -22,8 +20,8 @@ returns c =
         sums_look_feasible = stuck_on 3 _ three_rows (everyday 4 12 3) (search rules) (search rules) (search rules) held.sums_look_feasible;
         pairs_fit = held.sums_fit;
         both_modes = fits 1 _ _ (search rules) held.both_modes;
-        overrun = fits 2 _ _ rows held.overrun;
-        overrun_runs = ap (λ (xs : List Row). run (loaded 2 xs) (replicate 3 (Tick 5))) rows ∙ ticks;
+        overrun = fits 2 _ _ (search rules) held.overrun;
+        overrun_runs = λ rows fit. ap (λ (xs : List Row). run (loaded 2 xs) (replicate 3 (Tick 5))) (held.sample_rows rows fit) ∙ (let ticks : held.overrun_ticks ≡ c.tick.result ∷ c.tick-2.result ∷ c.tick-3.result ∷ [] = search rules in ticks);
         no_tasks_stands = λ m. (λ h. held.no_tasks_stand m (omega (arith, h, c.idle.ensures.controllers)), λ s. omega (arith, s.few, c.idle.ensures.controllers));
         no_tasks_runs = λ n. (λ l. quiet_run n 0 (omega (arith, l, c.idle.ensures.ticks)), λ e. omega (arith, quiet_before n 0 (omega arith) e, c.idle.ensures.ticks));
       };
