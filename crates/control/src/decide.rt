@@ -24,7 +24,7 @@ fn is_due(row: &Row, controller: u8, mode: Mode, elapsed: u64) -> bool
         && elapsed % u64::from(row.task.period) == u64::from(row.start(mode))
 }
 
-// What the rule gives for each of so many controllers. It is not asked for others: on a small bench that is most of a tick.
+// What the rule gives for each of so many controllers. It is not asked for others: for two controllers that saves a third of a tick.
 fn by_controller<F: Fn(u8) -> Option<u8>>(count: u8, rule: F) -> [Option<u8>; 8]
     requires callable { F.IsAlwaysCallable rule }
     ensures each { (c : ℕ) → c < 8 → c < count → F.post rule c (slice_index_or result c None) }
