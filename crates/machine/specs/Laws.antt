@@ -10,6 +10,7 @@ use Rattle.machine.specs.declared.entry.Call.{Call}
 use Rattle.machine.specs.declared.entry.Call.TheVariants.{Tick, Report, Strike, Return, Controller, Row, Status}
 use Rattle.machine.specs.Below.{first_below, count_below}
 use Rattle.machine.specs.Plans.{Due}
+use Rattle.tasks.specs.Refusals.{reason_number}
 use Rattle.tasks.specs.Tasks.{budget}
 use Rattle.planner.specs.Rows.{start}
 use Rattle.std.specs.List.{slice_get}
@@ -81,7 +82,7 @@ IdleThen before es =
 
 -- No call is sent back because a start found its controller busy.
 abbrev pub NeverBusy : Told → Call → Answer → Type 0
-NeverBusy before call a = (refusal : Refusal) → a ≡ Err refusal → refusal.reason ≢ reason.Busy
+NeverBusy before call a = (refusal : Refusal) → a ≡ Err refusal → reason_number refusal.reason ≢ 17
 
 -- In time. A job that still runs after the tick of instant t has t + S < its start instant + D.
 abbrev pub InTime : List PlanRow → Told → List Event → Type 0

@@ -19,8 +19,10 @@ use Rattle.tasks.specs.declared.fault.ControlFault.TheVariants as control
 use Rattle.tasks.specs.declared.fault.RunFault.{RunFault}
 use Rattle.tasks.specs.declared.fault.RunFault.TheVariants as run
 use Rattle.tasks.specs.declared.reason.Layer.{Layer}
+use Rattle.tasks.specs.declared.reason.Layer.TheVariants as layer
 use Rattle.tasks.specs.declared.reason.Layer.TheVariants.{Digits, Frames, Sheet, Planning, Control, Bench}
 use Rattle.tasks.specs.declared.reason.Reason.{Reason}
+use Rattle.tasks.specs.declared.reason.Reason.TheVariants as reason
 use Rattle.tasks.specs.declared.reason.Reason.TheVariants.{BadDigits, Unended, NoFrame, OutOfPlace, Size, Range, IdUsed, PeriodFalls, Counts, NoController, Beyond, Idle, Everyday, SomeBusy, Places, Over, Busy, NotEachOnce, NotLoaded, Loaded}
 use Rattle.tasks.specs.declared.refusal.Refusal.{Refusal}
 
@@ -46,6 +48,7 @@ reason_number Busy = 17
 reason_number NotEachOnce = 18
 reason_number NotLoaded = 19
 reason_number Loaded = 20
+reason_number (reason.Other n) = n
 
 -- the number that is reported for the layer that found the fault
 abbrev pub layer_number : Layer → ℕ
@@ -55,6 +58,7 @@ layer_number Sheet = 3
 layer_number Planning = 4
 layer_number Control = 5
 layer_number Bench = 6
+layer_number (layer.Other n) = n
 
 -- a refusal with this reason, layer and place, and no column
 abbrev pub refusal : Reason → Layer → ℕ → Refusal

@@ -14,4 +14,4 @@ pub use fault::{
 pub use mode::{Mode, PerMode};
 pub use reason::{Layer, Reason};
 pub use refusal::Refusal;
-pub use task::Task;
+pub use task::{BLANK_TASK, Task};

@@ -22,14 +22,14 @@ impl Refusal {
     pub fn number(&self) -> u8
         ensures value { result ≡ reason_number self.now.reason }
     {
-        self.reason as u8
+        self.reason.number()
     }
 
     // The number that is reported for the layer.
     pub fn layer_number(&self) -> u8
         ensures value { result ≡ layer_number self.now.layer }
     {
-        self.layer as u8
+        self.layer.number()
     }
 }
 

@@ -16,6 +16,18 @@ pub struct Task {
     pub budgets: PerMode,
 }
 
+// What stands in a place before a task is written there: the default, for a constant, whose value can call no function.
+pub const BLANK_TASK: Task = Task {
+    id: 0,
+    level: 0,
+    period: 0,
+    deadline: 0,
+    budgets: PerMode {
+        everyday: 0,
+        critical: 0,
+    },
+};
+
 impl Task {
     // Whether the task runs in this mode.
     pub fn belongs(&self, mode: Mode) -> bool
