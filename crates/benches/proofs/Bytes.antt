@@ -1,6 +1,5 @@
 -- What the bytes of a register bench show, before and after a command.
-use Rattle.std.proofs.Common.{◌≡◌, ℕ, zero, suc, ◌+◌, ◌-◌, ◌<◌, min, ◌≢◌, List, map, length, get_or, take, drop, set, Some, None, Ok, Err, Option, Result, ◌≤◌, sym, refl, ap, ◌∙◌, ⊎_elim, add_comm, add-one, arith, length-drop, length-set, get_or-set_other, get_or-take}
-use Rattle.std.specs.Option.{SomeIff}
+use Rattle.std.proofs.Common.{◌≡◌, ℕ, ◌+◌, ◌-◌, ◌<◌, min, ◌≢◌, List, map, length, get_or, take, drop, set, Some, None, Ok, Err, Result, sym, refl, ap, ◌∙◌, ⊎_elim, add_comm, add-one, arith, length-drop, length-set, get_or-set_other, get_or-take}
 use lib.Seq.{take-set-lt}
 use Rattle.std.proofs.lemmas.List.{length-take, length-map, get_or-map, get_or-drop, drop-set-add, drop-set-lt, map-set}
 use Rattle.std.proofs.lemmas.Bool.{cases_lt}
@@ -28,13 +27,6 @@ shown_set bs c v h =
     ∙ ap (λ xs. map decoded (take 8 xs)) (drop-set-add 1 bs c v)
     ∙ ap (map decoded) (take-set-lt 8 (drop 1 bs) c v h)
     ∙ map-set decoded (take 8 (drop 1 bs)) c v
-
--- what a controller does, as the code reads its byte
-pub decoded_is : (v : ℕ) (r : Option ℕ) → SomeIff r (1 ≤ v) (v - 1) → r ≡ decoded v
-decoded_is zero None _ = refl
-decoded_is zero (Some _) e = absurd (omega (arith, e.0))
-decoded_is (suc v) None none = absurd (none (omega arith))
-decoded_is (suc v) (Some _) e = ap Some (omega (arith, e.1))
 
 -- the byte of a controller that is busy with a row
 decoded_suc : (row : ℕ) → decoded (row + 1) ≡ Some row

@@ -2,4 +2,5 @@
 pub mod BusySets
 pub mod Bytes
 pub mod Made
+pub mod Released
 pub mod Commands

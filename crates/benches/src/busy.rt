@@ -31,6 +31,7 @@ pub fn busy_count<B: Bench>(bench: &B) -> u8
 }
 
 // The lowest controller that is busy, if any is; the cast as above.
+#[tactic(auto, using(crate::proofs::BusySets::lowest_by_set))]
 pub fn lowest_busy<B: Bench>(bench: &B) -> Option<u8>
     ensures value { result ≡ lowest_busy (B.meaning bench.now) }
 {

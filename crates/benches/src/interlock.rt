@@ -1,9 +1,77 @@
-ghost use Rattle.std.specs.Prelude.{◌≡◌, ◌<◌, length, slice_index, slice_set};
+ghost use Rattle.std.specs.Prelude.{◌≡◌, ℕ, ◌<◌, List, Err, Result, length, slice_index, slice_set};
+ghost use Rattle.tasks.specs.declared.fault.BenchFault.{BenchFault as Fault};
+ghost use Rattle.tasks.specs.declared.fault.BenchFault.TheVariants.{NoController};
+
+use tasks::BenchFault;
+
+// The caller's bytes. No other file can reach them, and this one hands them to a command only by an interlock: so none is written
+// while byte 0 does not hold 1.
+#[derive(Drop)]
+pub(crate) struct Registers<'a> {
+    bytes: &'a mut [u8],
+}
 
 // While one lives byte 0 holds 1; as it goes byte 0 is put back.
 pub(crate) struct Interlock<'a> {
     bytes: &'a mut [u8],
     before: u8,
+}
+
+// A command to a controller, which works on the bytes while an interlock holds.
+pub(crate) trait Command: Copy {
+    // What it answers, by the bytes as they were before the interlock.
+    ghost answer: { Self → List ℕ → ℕ → Result (Unit {0}) Fault };
+
+    // The bytes that are left when the interlock is gone.
+    ghost after: { Self → List ℕ → ℕ → List ℕ };
+
+    fn carry_out(self, lock: &mut Interlock<'_>, controller: u8) -> Result<(), BenchFault>
+        requires held { slice_index lock.old.bytes.now 0 ≡ 1 }
+        ensures same { lock.new.bytes.ghost_name ≡ lock.old.bytes.ghost_name }
+        ensures before { lock.new.before ≡ lock.old.before }
+        ensures long { length lock.new.bytes.now ≡ length lock.old.bytes.now }
+        ensures answer { result ≡ answer self (slice_set lock.old.bytes.now 0 lock.old.before) controller }
+        ensures after { slice_set lock.new.bytes.now 0 lock.new.before ≡ after self (slice_set lock.old.bytes.now 0 lock.old.before) controller };
+}
+
+impl<'a> Registers<'a> {
+    pub(crate) fn new(bytes: &'a mut [u8]) -> Registers<'a>
+        ensures same { result.bytes.ghost_name ≡ bytes.entry.ghost_name }
+        ensures bytes { result.bytes.now ≡ bytes.old }
+    {
+        Registers { bytes }
+    }
+
+    pub(crate) fn bytes(&self) -> &[u8]
+        ensures value { result.now ≡ self.now.bytes.now }
+    {
+        self.bytes
+    }
+
+    // Lets the command work on the controller.
+    pub(crate) fn command<C: Command>(
+        &mut self,
+        controller: u8,
+        command: C,
+    ) -> Result<(), BenchFault>
+        ensures same { self.new.bytes.ghost_name ≡ self.old.bytes.ghost_name }
+        ensures none { length self.old.bytes.now ≡ 0 → (result ≡ Err (NoController controller)) × (self.new.bytes.now ≡ self.old.bytes.now) }
+        ensures some { 0 < length self.old.bytes.now → (result ≡ C.answer command self.old.bytes.now controller) × (self.new.bytes.now ≡ C.after command self.old.bytes.now controller) }
+    {
+        locked(self.bytes, controller, command)
+    }
+}
+
+// Carries the command out while an interlock holds. Where there is no byte there is no interlock, and no controller either.
+fn locked<C: Command>(bytes: &mut [u8], controller: u8, command: C) -> Result<(), BenchFault>
+    ensures none { length bytes.old ≡ 0 → (result ≡ Err (NoController controller)) × (bytes.new ≡ bytes.old) }
+    ensures some { 0 < length bytes.old → (result ≡ C.answer command bytes.old controller) × (bytes.new ≡ C.after command bytes.old controller) }
+{
+    if bytes.is_empty() {
+        return Err(BenchFault::NoController { controller });
+    }
+    let mut lock = Interlock::engage(bytes);
+    command.carry_out(&mut lock, controller)
 }
 
 impl Drop for Interlock<'_> {
@@ -17,7 +85,7 @@ impl Drop for Interlock<'_> {
 }
 
 impl<'a> Interlock<'a> {
-    pub(crate) fn engage(bytes: &'a mut [u8]) -> Interlock<'a>
+    fn engage(bytes: &'a mut [u8]) -> Interlock<'a>
         requires { 0 < length bytes.old }
         ensures same { result.bytes.ghost_name ≡ bytes.entry.ghost_name }
         ensures before { result.before ≡ slice_index bytes.old 0 }
@@ -28,11 +96,10 @@ impl<'a> Interlock<'a> {
         Interlock { bytes, before }
     }
 
-    pub(crate) fn get(&self, place: usize) -> u8
-        requires { place < length self.now.bytes.now }
-        ensures value { result ≡ slice_index self.now.bytes.now place }
+    pub(crate) fn bytes(&self) -> &[u8]
+        ensures value { result.now ≡ self.now.bytes.now }
     {
-        self.bytes[place]
+        self.bytes
     }
 
     // The memory takes a command only while byte 0 holds 1.

@@ -1,14 +1,21 @@
 ghost use Rattle.benches.specs.Commands.{end_answer, end_on, start_answer, start_on};
 ghost use Rattle.benches.specs.Registers.{Commanded, decoded, end_bytes, made, shown_by, start_bytes};
-ghost use Rattle.std.specs.Prelude.{◌≡◌, ◌+◌, ◌<◌, ◌≤◌, Err, length, slice_index};
+ghost use Rattle.std.specs.Prelude.{◌≡◌, ◌+◌, ◌<◌, ◌≤◌, Err, length, slice_index, slice_set};
 ghost use Rattle.tasks.specs.declared.fault.BenchFault.TheVariants.{NoController};
 
 use crate::bench::{may_end, may_start};
-use crate::interlock::Interlock;
+use crate::interlock::{Command, Interlock};
 use tasks::BenchFault;
 
-// The commands of the register bench, as functions of its bytes: as methods, each would have to say besides that the bench
-// still holds the same bytes.
+// The start of a row on a controller.
+#[derive(Clone, Copy)]
+pub(crate) struct Start {
+    pub(crate) row: u8,
+}
+
+// The end of what a controller does.
+#[derive(Clone, Copy)]
+pub(crate) struct End;
 
 // How many controllers the bytes have. They are at most eight, so the cast needs no `try_from`.
 pub(crate) fn shown(bytes: &[u8]) -> u8
@@ -17,26 +24,32 @@ pub(crate) fn shown(bytes: &[u8]) -> u8
     bytes.len().saturating_sub(1).min(8) as u8
 }
 
-// Does a command on a controller's byte while the interlock holds: the byte becomes what the command makes of it.
-fn command<F: FnOnce(u8) -> Result<u8, BenchFault> + Drop>(
-    bytes: &mut [u8],
+// The row that a controller's byte shows, if it shows one.
+pub(crate) fn decoded(byte: u8) -> Option<u8>
+    ensures value { result ≡ decoded byte }
+{
+    byte.checked_sub(1)
+}
+
+// Does a command on a controller's byte: the byte becomes what the command makes of it.
+fn on_controller<F: FnOnce(u8) -> Result<u8, BenchFault> + Drop>(
+    lock: &mut Interlock<'_>,
     controller: u8,
     on_byte: F,
 ) -> Result<(), BenchFault>
-    requires { F.IsAlwaysCallable on_byte }
-    ensures none { length (shown_by bytes.old) ≤ controller → (result ≡ Err (NoController controller)) × (bytes.new ≡ bytes.old) }
-    ensures some { controller < length (shown_by bytes.old) → (made : _) × F.post on_byte (slice_index bytes.old (controller + 1)) made × Commanded bytes.old controller made result bytes.new }
+    requires callable { F.IsAlwaysCallable on_byte }
+    requires held { slice_index lock.old.bytes.now 0 ≡ 1 }
+    ensures same { lock.new.bytes.ghost_name ≡ lock.old.bytes.ghost_name }
+    ensures before { lock.new.before ≡ lock.old.before }
+    ensures long { length lock.new.bytes.now ≡ length lock.old.bytes.now }
+    ensures none { length (shown_by lock.old.bytes.now) ≤ controller → (result ≡ Err (NoController controller)) × (lock.new.bytes.now ≡ lock.old.bytes.now) }
+    ensures some { controller < length (shown_by lock.old.bytes.now) → (made : _) × F.post on_byte (slice_index lock.old.bytes.now (controller + 1)) made × Commanded lock.old.bytes.now controller made result lock.new.bytes.now }
 {
-    if bytes.is_empty() {
-        return Err(BenchFault::NoController { controller });
-    }
-    let count = shown(bytes);
-    let mut lock = Interlock::engage(bytes);
-    if controller >= count {
+    if controller >= shown(lock.bytes()) {
         return Err(BenchFault::NoController { controller });
     }
     let place = usize::from(controller) + 1;
-    let byte = on_byte(lock.get(place))?;
+    let byte = on_byte(lock.bytes()[place])?;
     lock.put(place, byte);
     Ok(())
 }
@@ -45,7 +58,7 @@ fn command<F: FnOnce(u8) -> Result<u8, BenchFault> + Drop>(
 fn start_byte(byte: u8, controller: u8, row: u8) -> Result<u8, BenchFault>
     ensures value { result ≡ made (start_on (decoded byte) controller row) (row + 1) }
 {
-    may_start(byte.checked_sub(1), controller, row)?;
+    may_start(decoded(byte), controller, row)?;
     Ok(row + 1)
 }
 
@@ -53,20 +66,27 @@ fn start_byte(byte: u8, controller: u8, row: u8) -> Result<u8, BenchFault>
 fn end_byte(byte: u8, controller: u8) -> Result<u8, BenchFault>
     ensures value { result ≡ made (end_on (decoded byte) controller) 0 }
 {
-    may_end(byte.checked_sub(1), controller)?;
+    may_end(decoded(byte), controller)?;
     Ok(0)
 }
 
-pub(crate) fn start_in(bytes: &mut [u8], controller: u8, row: u8) -> Result<(), BenchFault>
-    ensures answer { result ≡ start_answer (shown_by bytes.old) controller row }
-    ensures after { bytes.new ≡ start_bytes bytes.old controller row }
-{
-    command(bytes, controller, |byte| start_byte(byte, controller, row))
+impl Command for Start {
+    ghost answer = { λ s bytes c. start_answer (shown_by bytes) c s.row };
+
+    ghost after = { λ s bytes c. start_bytes bytes c s.row };
+
+    fn carry_out(self, lock: &mut Interlock<'_>, controller: u8) -> Result<(), BenchFault> {
+        let row = self.row;
+        on_controller(lock, controller, |byte| start_byte(byte, controller, row))
+    }
 }
 
-pub(crate) fn end_in(bytes: &mut [u8], controller: u8) -> Result<(), BenchFault>
-    ensures answer { result ≡ end_answer (shown_by bytes.old) controller }
-    ensures after { bytes.new ≡ end_bytes bytes.old controller }
-{
-    command(bytes, controller, |byte| end_byte(byte, controller))
+impl Command for End {
+    ghost answer = { λ s bytes c. end_answer (shown_by bytes) c };
+
+    ghost after = { λ s bytes c. end_bytes bytes c };
+
+    fn carry_out(self, lock: &mut Interlock<'_>, controller: u8) -> Result<(), BenchFault> {
+        on_controller(lock, controller, |byte| end_byte(byte, controller))
+    }
 }
