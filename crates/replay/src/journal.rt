@@ -36,18 +36,22 @@ impl Journal {
         })
     }
 
+    // The entries after the script's. A slice and no `skip`, which walks past each call of the script.
+    fn questions(&self) -> &[Entry] {
+        &self.entries[self.script.min(self.entries.len())..]
+    }
+
     // How many controllers are busy with the row.
     fn running(&self, row: u8) -> usize {
-        self.entries
+        self.questions()
             .iter()
-            .skip(self.script)
             .filter(|entry| matches!(entry.answer, Ok(Reply::Shown(Some(shown))) if shown == row))
             .count()
     }
 
     // What was started, reported and cut of each row, and what is running.
     fn write_rows<W: fmt::Write>(&self, f: &mut fmt::Formatter<W>) -> fmt::Result {
-        for entry in self.entries.iter().skip(self.script) {
+        for entry in self.questions() {
             if let (Call::Row { row }, Ok(Reply::Counted(counts))) = (entry.call, entry.answer) {
                 let Counts {
                     starts,
