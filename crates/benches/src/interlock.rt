@@ -4,13 +4,6 @@ ghost use Rattle.tasks.specs.declared.fault.BenchFault.TheVariants.{NoController
 
 use tasks::BenchFault;
 
-// The caller's bytes. No other file can reach them, and this one hands them to a command only by an interlock: so none is written
-// while byte 0 does not hold 1.
-#[derive(Drop)]
-pub(crate) struct Registers<'a> {
-    bytes: &'a mut [u8],
-}
-
 // While one lives byte 0 holds 1; as it goes byte 0 is put back.
 pub(crate) struct Interlock<'a> {
     bytes: &'a mut [u8],
@@ -34,36 +27,12 @@ pub(crate) trait Command: Copy {
         ensures after { slice_set lock.new.bytes.now 0 lock.new.before ≡ after self (slice_set lock.old.bytes.now 0 lock.old.before) controller };
 }
 
-impl<'a> Registers<'a> {
-    pub(crate) fn new(bytes: &'a mut [u8]) -> Registers<'a>
-        ensures same { result.bytes.ghost_name ≡ bytes.entry.ghost_name }
-        ensures bytes { result.bytes.now ≡ bytes.old }
-    {
-        Registers { bytes }
-    }
-
-    pub(crate) fn bytes(&self) -> &[u8]
-        ensures value { result.now ≡ self.now.bytes.now }
-    {
-        self.bytes
-    }
-
-    // Lets the command work on the controller.
-    pub(crate) fn command<C: Command>(
-        &mut self,
-        controller: u8,
-        command: C,
-    ) -> Result<(), BenchFault>
-        ensures same { self.new.bytes.ghost_name ≡ self.old.bytes.ghost_name }
-        ensures none { length self.old.bytes.now ≡ 0 → (result ≡ Err (NoController controller)) × (self.new.bytes.now ≡ self.old.bytes.now) }
-        ensures some { 0 < length self.old.bytes.now → (result ≡ C.answer command self.old.bytes.now controller) × (self.new.bytes.now ≡ C.after command self.old.bytes.now controller) }
-    {
-        locked(self.bytes, controller, command)
-    }
-}
-
 // Carries the command out while an interlock holds. Where there is no byte there is no interlock, and no controller either.
-fn locked<C: Command>(bytes: &mut [u8], controller: u8, command: C) -> Result<(), BenchFault>
+pub(crate) fn locked<C: Command>(
+    bytes: &mut [u8],
+    controller: u8,
+    command: C,
+) -> Result<(), BenchFault>
     ensures none { length bytes.old ≡ 0 → (result ≡ Err (NoController controller)) × (bytes.new ≡ bytes.old) }
     ensures some { 0 < length bytes.old → (result ≡ C.answer command bytes.old controller) × (bytes.new ≡ C.after command bytes.old controller) }
 {

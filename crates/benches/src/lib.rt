@@ -6,6 +6,7 @@ mod busy;
 mod interlock;
 mod memory;
 mod register;
+mod register_bench;
 mod slate;
 mod slate_bench;
 

@@ -1,70 +1,40 @@
-ghost use Rattle.benches.specs.Commands.{OthersKept, end_after, end_answer, start_after, start_answer};
-ghost use Rattle.benches.specs.Registers.{Around, around, end_bytes, few_shown, shown_by, start_bytes};
-ghost use Rattle.std.specs.Prelude.{◌≡◌};
+ghost use Rattle.std.specs.Prelude.{◌≡◌, ◌<◌, Err, length};
+ghost use Rattle.tasks.specs.declared.fault.BenchFault.TheVariants.{NoController};
 
-use crate::bench::Bench;
-use crate::interlock::Registers;
-use crate::memory::{End, Start, decoded, shown};
+use crate::interlock::{Command, locked};
 use tasks::BenchFault;
 
-// A bench over the caller's bytes: byte c + 1 is 0 while controller c is idle, and v while it is busy with row v - 1.
+// A bench over the caller's bytes: byte c + 1 is 0 while controller c is idle, and v while it is busy with row v - 1. No other file
+// but the interlock's can reach the bytes, and a command gets them only by an interlock: so it does its work while byte 0 holds 1.
 #[derive(Drop)]
 pub struct RegisterBench<'a> {
-    registers: Registers<'a>,
+    bytes: &'a mut [u8],
 }
 
 impl<'a> RegisterBench<'a> {
     pub fn new(bytes: &'a mut [u8]) -> RegisterBench<'a>
-        ensures same { result.registers.bytes.ghost_name ≡ bytes.entry.ghost_name }
-        ensures bytes { result.registers.bytes.now ≡ bytes.old }
+        ensures same { result.bytes.ghost_name ≡ bytes.entry.ghost_name }
+        ensures bytes { result.bytes.now ≡ bytes.old }
     {
-        RegisterBench {
-            registers: Registers::new(bytes),
-        }
-    }
-}
-
-// The clauses of an impl's method replace the trait's: `start` and `end` say the trait's again, and then what the bytes are.
-impl<'a> Bench for RegisterBench<'a> {
-    ghost meaning = { λ b. shown_by b.registers.bytes.now };
-
-    ghost few = { λ b. few_shown b.registers.bytes.now };
-
-    ghost Fixed = { Around };
-
-    ghost fixed = { λ b. around b.registers.bytes.ghost_name b.registers.bytes.now };
-
-    fn count(&self) -> u8 {
-        shown(self.registers.bytes())
+        RegisterBench { bytes }
     }
 
-    fn start(&mut self, controller: u8, row: u8) -> Result<(), BenchFault>
-        ensures answer { result ≡ start_answer (shown_by self.old.registers.bytes.now) controller row }
-        ensures after { shown_by self.new.registers.bytes.now ≡ start_after (shown_by self.old.registers.bytes.now) controller row }
-        ensures others { OthersKept (shown_by self.old.registers.bytes.now) (shown_by self.new.registers.bytes.now) controller }
-        ensures fixed { around self.new.registers.bytes.ghost_name self.new.registers.bytes.now ≡ around self.old.registers.bytes.ghost_name self.old.registers.bytes.now }
-        ensures same { self.new.registers.bytes.ghost_name ≡ self.old.registers.bytes.ghost_name }
-        ensures bytes { self.new.registers.bytes.now ≡ start_bytes self.old.registers.bytes.now controller row }
+    pub(crate) fn bytes(&self) -> &[u8]
+        ensures value { result.now ≡ self.now.bytes.now }
     {
-        self.registers.command(controller, Start { row })
+        self.bytes
     }
 
-    fn end(&mut self, controller: u8) -> Result<(), BenchFault>
-        ensures answer { result ≡ end_answer (shown_by self.old.registers.bytes.now) controller }
-        ensures after { shown_by self.new.registers.bytes.now ≡ end_after (shown_by self.old.registers.bytes.now) controller }
-        ensures others { OthersKept (shown_by self.old.registers.bytes.now) (shown_by self.new.registers.bytes.now) controller }
-        ensures fixed { around self.new.registers.bytes.ghost_name self.new.registers.bytes.now ≡ around self.old.registers.bytes.ghost_name self.old.registers.bytes.now }
-        ensures same { self.new.registers.bytes.ghost_name ≡ self.old.registers.bytes.ghost_name }
-        ensures bytes { self.new.registers.bytes.now ≡ end_bytes self.old.registers.bytes.now controller }
+    // Lets the command work on the controller.
+    pub(crate) fn command<C: Command>(
+        &mut self,
+        controller: u8,
+        command: C,
+    ) -> Result<(), BenchFault>
+        ensures same { self.new.bytes.ghost_name ≡ self.old.bytes.ghost_name }
+        ensures none { length self.old.bytes.now ≡ 0 → (result ≡ Err (NoController controller)) × (self.new.bytes.now ≡ self.old.bytes.now) }
+        ensures some { 0 < length self.old.bytes.now → (result ≡ C.answer command self.old.bytes.now controller) × (self.new.bytes.now ≡ C.after command self.old.bytes.now controller) }
     {
-        self.registers.command(controller, End)
-    }
-
-    fn state(&self, controller: u8) -> Result<Option<u8>, BenchFault> {
-        if controller >= shown(self.registers.bytes()) {
-            return Err(BenchFault::NoController { controller });
-        }
-        let byte = self.registers.bytes()[usize::from(controller) + 1];
-        Ok(decoded(byte))
+        locked(self.bytes, controller, command)
     }
 }
